@@ -1,13 +1,17 @@
-// A library with one function.
+//! The base of Multiverse: what every other crate stands on.
+//!
+//! - `status`: the answers of the program and their numbers.
+//! - `numbers`: little-endian numbers in bytes, and numbers as text.
+//! - `lists`: byte and address lists that contracts see as lists.
+//! - `range`: address ranges and the places of runs.
 #![tactic(auto)]
 
-ghost use Rattle.std.specs.Prelude.{◌≡◌};
-ghost use Rattle.mv_base.specs.Echo.{echo_of};
+pub mod lists;
+pub mod numbers;
+pub mod range;
+pub mod status;
 
-// The `ensures` clause is the contract: what `echo` returns is `echo_of` of its argument, a definition
-// in `specs/Echo.antt`, which a caller's clause can cite too.
-pub fn echo(x: usize) -> usize
-    ensures { result ≡ echo_of x }
-{
-    x
-}
+pub use lists::{Addrs, Bytes};
+pub use numbers::{NoMemory, put_decimal, put_hex8, u32_at};
+pub use range::{Range, RunPlace};
+pub use status::Status;
