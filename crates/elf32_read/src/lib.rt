@@ -1,13 +1,16 @@
-// A library with one function.
+//! Static ELF executables for i386: the image that a file is, or the first reason why it is none that the
+//! project takes.
+//!
+//! `fault` names the reasons, `image` has the image and its program headers, `read` reads it field by field,
+//! `runs` gives the executable bytes. The definitions in specs/ say the same of the whole file.
 #![tactic(auto)]
 
-ghost use Rattle.std.specs.Prelude.{◌≡◌};
-ghost use Rattle.elf32_read.specs.Echo.{echo_of};
+pub mod fault;
+pub mod image;
+pub mod read;
+pub mod runs;
 
-// The `ensures` clause is the contract: what `echo` returns is `echo_of` of its argument, a definition
-// in `specs/Echo.antt`, which a caller's clause can cite too.
-pub fn echo(x: usize) -> usize
-    ensures { result ≡ echo_of x }
-{
-    x
-}
+pub use fault::ImageFault;
+pub use image::{Headers, Image, Phdr, Segment, Segments};
+pub use read::{ReadImage, read_image};
+pub use runs::{Run, Runs, runs};

@@ -1,6 +1,9 @@
--- the definitions that this crate's contracts cite
+-- the definitions that this crate's contracts, and those of the crates above, cite
 pub mod Appended
-pub mod Numbers
+pub mod Bytes
+pub mod Effects
+pub mod Memory
 pub mod Span
 pub mod StatusCode
+pub mod Table
 pub mod Text

@@ -2,7 +2,7 @@
 
 ghost use Rattle.std.specs.Prelude.{◌≡◌, ◌+◌, ◌/◌, ◌%◌, ◌^◌, ◌<◌, ◌≤◌, ◌++◌, length, decimal, OnOk, OnErr, IfSome, IfNone};
 ghost use Rattle.mv_base.specs.Appended.{AppendsPrefix};
-ghost use Rattle.mv_base.specs.Numbers.{u32_of};
+ghost use Rattle.mv_base.specs.Bytes.{word_at};
 ghost use Rattle.mv_base.specs.Text.{hex8, hex_digit as hex_digit_of};
 
 use byteorder::{ByteOrder, LittleEndian};
@@ -28,9 +28,10 @@ impl<T: Drop> From<AllocFailed<T>> for NoMemory {
 }
 
 /// The little-endian number in the four bytes from `place` on; `None` where four bytes aren't there.
+#[tactic(auto, unfolding(crate::specs::Bytes::word_at))]
 pub fn u32_at(bytes: &[u8], place: usize) -> Option<u32>
     ensures missing { IfNone result (length bytes.now < place + 4) }
-    ensures number { IfSome result (λ n. (place + 4 ≤ length bytes.now) × (n ≡ u32_of bytes.now place)) }
+    ensures number { IfSome result (λ n. (place + 4 ≤ length bytes.now) × (n ≡ word_at bytes.now place)) }
 {
     let tail = bytes.get(place..)?;
     if tail.len() < 4 {

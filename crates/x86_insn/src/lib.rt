@@ -1,13 +1,14 @@
-// A library with one function.
+//! The instructions of 32-bit user code that the project knows, and what a step of a machine is.
+//!
+//! `insn` has the types, `flags` the status flags. The definitions in specs/ say which byte lists spell
+//! which instruction, what an instruction asks of registers and memory, and what a run is.
 #![tactic(auto)]
 
-ghost use Rattle.std.specs.Prelude.{◌≡◌};
-ghost use Rattle.x86_insn.specs.Echo.{echo_of};
+pub mod flags;
+pub mod insn;
 
-// The `ensures` clause is the contract: what `echo` returns is `echo_of` of its argument, a definition
-// in `specs/Echo.antt`, which a caller's clause can cite too.
-pub fn echo(x: usize) -> usize
-    ensures { result ≡ echo_of x }
-{
-    x
-}
+pub use flags::Flags;
+pub use insn::{
+    AluOp, BitOp, Cond, Count, FlagOp, Flow, Insn, LoopKind, Mem, Reg, Rep, Rm, ShiftOp, Src, StrOp,
+    UnOp, Width,
+};

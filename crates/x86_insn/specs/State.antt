@@ -1,0 +1,60 @@
+-- The state of the user machine. Intel SDM, volume 1, chapter 3; the answers and calls are this project's own.
+use Rattle.std.specs.Prelude.{◌≡◌, ℕ, zero, suc, ◌^◌, ◌<◌, List, [], ◌∷◌, length, Option, slice_index}
+use Rattle.std.specs.List.{AllByRecursion}
+use Rattle.mv_base.specs.Memory.{Memory, IsMemory}
+use Rattle.mv_base.specs.Effects.{Answer, IsAnswer}
+use Rattle.x86_insn.specs.declared.flags.Flags.{Flags}
+use Rattle.x86_insn.specs.declared.insn.Reg.{Reg}
+use Rattle.x86_insn.specs.declared.insn.Reg.TheVariants.{Eax, Ecx, Edx, Ebx, Esp, Ebp, Esi, Edi}
+
+-- what an instruction may change without memory: the eight general registers by their number, and the flags
+pub record Core : Type 0 where
+  pub regs : List ℕ
+  pub flags : Flags
+
+pub record IsCore (c : Core) : Type 0 where
+  pub eight : length c.regs ≡ 8
+  pub fits : (k : ℕ) → slice_index c.regs k < 2 ^ 32
+
+-- a state: core, instruction pointer, memory, the answers left, and the calls made, the oldest first
+pub record State : Type 0 where
+  pub core : Core
+  pub eip : ℕ
+  pub memory : Memory
+  pub answers : List Answer
+  pub calls : List (List ℕ)
+
+-- a register's number
+abbrev pub reg_number : Reg → ℕ
+reg_number Eax = 0
+reg_number Ecx = 1
+reg_number Edx = 2
+reg_number Ebx = 3
+reg_number Esp = 4
+reg_number Ebp = 5
+reg_number Esi = 6
+reg_number Edi = 7
+
+-- why a trap comes
+pub data Kind : Type 0 where
+  ReadFault : Kind
+  WriteFault : Kind
+  FetchFault : Kind
+  Divide : Kind
+  Breakpoint : Kind
+  Invalid : Kind
+  Protection : Kind
+
+-- why a machine stops: a trap with its address (0 where it has none), bytes that are no instruction, no answer left,
+-- an answer that cannot be applied, or the end of the program
+pub data Stop : Type 0 where
+  Trap : (kind : Kind) (at : ℕ) → Stop
+  Outside : Stop
+  NoAnswer : Stop
+  BadAnswer : Stop
+  Gone : Stop
+
+-- what a step gives: the next state, or a stop and the state there
+pub data Outcome : Type 0 where
+  Next : (s : State) → Outcome
+  Stopped : (why : Stop) (s : State) → Outcome
