@@ -2,3 +2,4 @@ pub mod Fields
 pub mod Faults
 pub mod Load
 pub mod Runs
+pub mod Reading

@@ -2,7 +2,7 @@
 use Rattle.std.specs.Prelude.{◌≡◌, ℕ, ◌+◌, ◌-◌, ◌<◌, ◌≤◌, Bool, List, [], ◌∷◌, ◌++◌, length, take, drop, replicate, Option, Some, None, nat_lt, ◌==◌, if◌then◌else◌, slice_get, slice_index}
 use Rattle.mv_base.specs.Memory.{within}
 use Rattle.elf32_read.specs.declared.image.Segment.{Segment}
-use Rattle.elf32_read.specs.declared.runs.Run.{Run}
+use Rattle.elf32_read.specs.declared.run.Run.{Run}
 use Rattle.elf32_read.specs.Fields.{segments}
 
 -- a segment's bytes: those of the file, then zeros

@@ -1,16 +1,16 @@
 //! Static ELF executables for i386: the image that a file is, or the first reason why it is none that the
 //! project takes.
 //!
-//! `fault` names the reasons, `image` has the image and its program headers, `read` reads it field by field,
-//! `runs` gives the executable bytes. The definitions in specs/ say the same of the whole file.
+//! `fault` names the reasons, `image` has the image and its program headers, `reader` reads it field by
+//! field, `run` gives the executable bytes. The definitions in specs/ say the same of the whole file.
 #![tactic(auto)]
 
 pub mod fault;
 pub mod image;
-pub mod read;
-pub mod runs;
+pub mod reader;
+pub mod run;
 
 pub use fault::ImageFault;
 pub use image::{Headers, Image, Phdr, Segment, Segments};
-pub use read::{ReadImage, read_image};
-pub use runs::{Run, Runs, runs};
+pub use reader::{ReadImage, read_image};
+pub use run::{Run, runs};
