@@ -1,13 +1,14 @@
-// A library with one function.
+//! Rewriting: from a static executable to one whose code is relocated.
+//!
+//! `site` and `plan` have the types, `rewriting` the whole. What stands beside them as private modules (the
+//! decoder, sites, pieces, slots, the table, the layout, the file, the frame) moves into crates of its own as
+//! the project grows.
 #![tactic(auto)]
 
-ghost use Rattle.std.specs.Prelude.{◌≡◌};
-ghost use Rattle.mv_rewrite.specs.Echo.{echo_of};
+pub mod plan;
+pub mod rewriting;
+pub mod site;
 
-// The `ensures` clause is the contract: what `echo` returns is `echo_of` of its argument, a definition
-// in `specs/Echo.antt`, which a caller's clause can cite too.
-pub fn echo(x: usize) -> usize
-    ensures { result ≡ echo_of x }
-{
-    x
-}
+pub use plan::{Plan, RunPlaces};
+pub use rewriting::{FILE_LIMIT, RewriteFault, Rewritten, rewrite};
+pub use site::Site;

@@ -1,0 +1,9 @@
+-- the definitions that this crate's contracts, and those of the crates above, cite
+pub mod Sites
+pub mod Pieces
+pub mod Layout
+pub mod File
+pub mod Output
+pub mod Frame
+pub mod Simulation
+pub mod Rewriting

@@ -1,0 +1,13 @@
+-- The one output of an input. This project's own.
+use Rattle.std.specs.Prelude.{ℕ, List, Option}
+use Rattle.std.specs.Option.{option_map}
+use Rattle.mv_rewrite.specs.Layout.{base_of, plan_at}
+use Rattle.mv_rewrite.specs.File.{file_of}
+
+-- the output for a block at this base
+abbrev pub output_at : List ℕ → ℕ → List ℕ
+output_at b base = file_of b (plan_at b base)
+
+-- the output, where there is room for the block
+unfoldable pub output : List ℕ → Option (List ℕ)
+output b = option_map (output_at b) (base_of b)
