@@ -5,5 +5,6 @@ pub mod Layout
 pub mod File
 pub mod Output
 pub mod Frame
+pub mod Relocated
 pub mod Simulation
 pub mod Rewriting
