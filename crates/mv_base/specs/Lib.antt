@@ -1,6 +1,9 @@
 -- the definitions that this crate's contracts cite
 pub mod Appended
+pub mod Faults
+pub mod Holding
 pub mod Numbers
+pub mod Printing
 pub mod Span
 pub mod StatusCode
 pub mod Text

@@ -9,9 +9,13 @@
 pub mod lists;
 pub mod numbers;
 pub mod range;
+pub mod sink;
 pub mod status;
+pub mod store;
 
 pub use lists::{Addrs, Bytes};
 pub use numbers::{NoMemory, put_decimal, put_hex8, u32_at};
 pub use range::{Range, RunPlace};
+pub use sink::{Sink, SinkFault};
 pub use status::Status;
+pub use store::{Got, Store, StoreFault};
