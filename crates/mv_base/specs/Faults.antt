@@ -1,5 +1,5 @@
 -- Counts of faults. A count stands still at its last value.
-use Rattle.std.specs.Prelude.{◌≡◌, ◌≢◌, ◌<◌, ◌-◌, ◌^◌, ℕ, List, Result, Ok, Err}
+use Rattle.std.specs.Prelude.{◌≡◌, ◌≢◌, ◌<◌, ◌+◌, ◌-◌, ◌^◌, min, ⊤, ℕ, List, Result, Ok, Err}
 use Rattle.mv_base.specs.declared.sink.SinkFault.{SinkFault}
 use Rattle.mv_base.specs.declared.sink.SinkFault.TheVariants as sink
 use Rattle.mv_base.specs.declared.store.StoreFault.{StoreFault}
@@ -13,18 +13,40 @@ last_count = 2 ^ 64 - 1
 abbrev pub Rose : ℕ → ℕ → Type 0
 Rose before after = after ≢ last_count → before < after
 
--- a store's call on a name raises its count and makes the name the failed one where it answers
--- Failed, and leaves both as they were where it answers anything else
+-- a fault at a name: Failed raises the count and makes the name the failed one, and want of memory
+-- leaves both as they were
+abbrev pub FaultCounts : StoreFault → ℕ → ℕ → List ℕ → List ℕ → List ℕ → Type 0
+FaultCounts store.Failed before after name failed_before failed_after =
+    Rose before after × (failed_after ≡ name)
+FaultCounts store.NoMemory before after name failed_before failed_after =
+    (after ≡ before) × (failed_after ≡ failed_before)
+
+-- a store's call on a name counts its fault where it answers one, and leaves the count and the failed
+-- name as they were where it answers none
 abbrev pub StoreCounts : {A : Type 0} → Result A StoreFault → ℕ → ℕ → List ℕ → List ℕ → List ℕ → Type 0
 StoreCounts (Ok _) before after name failed_before failed_after =
     (after ≡ before) × (failed_after ≡ failed_before)
-StoreCounts (Err store.Failed) before after name failed_before failed_after =
-    Rose before after × (failed_after ≡ name)
-StoreCounts (Err store.NoMemory) before after name failed_before failed_after =
-    (after ≡ before) × (failed_after ≡ failed_before)
+StoreCounts (Err fault) before after name failed_before failed_after =
+    FaultCounts fault before after name failed_before failed_after
 
 -- a sink's call raises the count where it answers Failed, and leaves it where it answers anything else
 abbrev pub SinkCounts : {A : Type 0} → Result A SinkFault → ℕ → ℕ → Type 0
 SinkCounts (Ok _) before after = after ≡ before
 SinkCounts (Err sink.Failed) before after = Rose before after
 SinkCounts (Err sink.NoMemory) before after = after ≡ before
+
+-- the number of the call after so many calls. Numbers begin at 1 and stand still at the last value
+abbrev pub next_call : ℕ → ℕ
+next_call calls = min (calls + 1) last_count
+
+-- a store's call answers Failed exactly where the fact holds, want of memory aside
+abbrev pub StoreFailsWhere : {A : Type 0} → Result A StoreFault → Type 0 → Type 0
+StoreFailsWhere (Ok _) fact = ¬ fact
+StoreFailsWhere (Err store.Failed) fact = fact
+StoreFailsWhere (Err store.NoMemory) fact = ⊤
+
+-- a sink's call answers Failed exactly where the fact holds, want of memory aside
+abbrev pub SinkFailsWhere : {A : Type 0} → Result A SinkFault → Type 0 → Type 0
+SinkFailsWhere (Ok _) fact = ¬ fact
+SinkFailsWhere (Err sink.Failed) fact = fact
+SinkFailsWhere (Err sink.NoMemory) fact = ⊤

@@ -2,6 +2,8 @@
 pub mod Appended
 pub mod Faults
 pub mod Holding
+pub mod MemSinkState
+pub mod MemStoreState
 pub mod Numbers
 pub mod Printing
 pub mod Span

@@ -6,7 +6,10 @@
 //! - `range`: address ranges and the places of runs.
 #![tactic(auto)]
 
+mod faults;
 pub mod lists;
+pub mod mem_sink;
+pub mod mem_store;
 pub mod numbers;
 pub mod range;
 pub mod sink;
@@ -14,6 +17,8 @@ pub mod status;
 pub mod store;
 
 pub use lists::{Addrs, Bytes};
+pub use mem_sink::MemSink;
+pub use mem_store::MemStore;
 pub use numbers::{NoMemory, put_decimal, put_hex8, u32_at};
 pub use range::{Range, RunPlace};
 pub use sink::{Sink, SinkFault};

@@ -3,7 +3,9 @@
 ghost use Rattle.std.specs.Prelude.{◌≡◌, ◌≤◌, ℕ, Bool, List, IsTrue};
 ghost use Rattle.mv_base.specs.Faults.{SinkCounts, last_count};
 ghost use Rattle.mv_base.specs.Printing.{Prints};
+ghost use Rattle.mv_base.specs.declared.sink.SinkFault.TheVariants.{NoMemory};
 
+use std::alloc::{AllocError, AllocFailed};
 use thiserror::Error;
 
 /// Why a call of a sink did not do its work.
@@ -15,6 +17,22 @@ pub enum SinkFault {
     /// Memory ran out.
     #[error("no memory")]
     NoMemory,
+}
+
+impl From<AllocError> for SinkFault {
+    ghost from_gives = { λ _ fault. fault ≡ NoMemory };
+
+    fn from(_error: AllocError) -> SinkFault {
+        SinkFault::NoMemory
+    }
+}
+
+impl<T: Drop> From<AllocFailed<T>> for SinkFault {
+    ghost from_gives = { λ _ fault. fault ≡ NoMemory };
+
+    fn from(_error: AllocFailed<T>) -> SinkFault {
+        SinkFault::NoMemory
+    }
 }
 
 /// What takes printed bytes, and can fail.
@@ -35,6 +53,6 @@ pub trait Sink {
         ensures prints { IsTrue (tells self.old) → Prints result bytes.now (written self.old) (written self.new) }
         ensures counts { SinkCounts result (faults self.old) (faults self.new) }
         ensures never_falls { faults self.old ≤ faults self.new }
-        ensures to_last { faults self.new ≤ last_count }
+        ensures to_last { faults self.old ≤ last_count → faults self.new ≤ last_count }
         ensures tells_same { tells self.new ≡ tells self.old };
 }

@@ -3,7 +3,10 @@
 ghost use Rattle.std.specs.Prelude.{◌≡◌, ◌≢◌, ◌≤◌, ℕ, Bool, List, [], Option, IsTrue};
 ghost use Rattle.mv_base.specs.Faults.{StoreCounts, last_count};
 ghost use Rattle.mv_base.specs.Holding.{Gets, KeepsLimit, Puts};
+ghost use Rattle.mv_base.specs.declared.store.StoreFault.TheVariants.{NoMemory};
 
+use crate::numbers;
+use std::alloc::{AllocError, AllocFailed};
 use thiserror::Error;
 
 /// What `get` found.
@@ -24,6 +27,30 @@ pub enum StoreFault {
     /// Memory ran out.
     #[error("no memory")]
     NoMemory,
+}
+
+impl From<numbers::NoMemory> for StoreFault {
+    ghost from_gives = { λ _ fault. fault ≡ NoMemory };
+
+    fn from(_error: numbers::NoMemory) -> StoreFault {
+        StoreFault::NoMemory
+    }
+}
+
+impl From<AllocError> for StoreFault {
+    ghost from_gives = { λ _ fault. fault ≡ NoMemory };
+
+    fn from(_error: AllocError) -> StoreFault {
+        StoreFault::NoMemory
+    }
+}
+
+impl<T: Drop> From<AllocFailed<T>> for StoreFault {
+    ghost from_gives = { λ _ fault. fault ≡ NoMemory };
+
+    fn from(_error: AllocFailed<T>) -> StoreFault {
+        StoreFault::NoMemory
+    }
 }
 
 /// Names that hold bytes, and calls that can fail.
@@ -54,7 +81,7 @@ pub trait Store {
 
         ensures counts { StoreCounts result (read_faults self.old) (read_faults self.new) name.now (failed self.old) (failed self.new) }
         ensures never_falls { read_faults self.old ≤ read_faults self.new }
-        ensures to_last { read_faults self.new ≤ last_count }
+        ensures to_last { read_faults self.old ≤ last_count → read_faults self.new ≤ last_count }
         ensures write_faults_same { write_faults self.new ≡ write_faults self.old }
         ensures tells_same { tells self.new ≡ tells self.old };
 
@@ -67,7 +94,7 @@ pub trait Store {
 
         ensures counts { StoreCounts result (write_faults self.old) (write_faults self.new) name.now (failed self.old) (failed self.new) }
         ensures never_falls { write_faults self.old ≤ write_faults self.new }
-        ensures to_last { write_faults self.new ≤ last_count }
+        ensures to_last { write_faults self.old ≤ last_count → write_faults self.new ≤ last_count }
         ensures read_faults_same { read_faults self.new ≡ read_faults self.old }
         ensures tells_same { tells self.new ≡ tells self.old };
 }
