@@ -5,6 +5,7 @@ pub mod Holding
 pub mod MemSinkState
 pub mod MemStoreState
 pub mod Numbers
+pub mod Pieces
 pub mod Printing
 pub mod Span
 pub mod StatusCode

@@ -11,6 +11,7 @@ pub mod lists;
 pub mod mem_sink;
 pub mod mem_store;
 pub mod numbers;
+mod pieces;
 pub mod range;
 pub mod sink;
 pub mod status;

@@ -3,10 +3,11 @@
 ghost use Rattle.std.specs.Prelude.{◌≡◌, ◌≢◌, ◌≤◌, ℕ, Bool, List, [], Option, IsTrue};
 ghost use Rattle.mv_base.specs.Faults.{StoreCounts, last_count};
 ghost use Rattle.mv_base.specs.Holding.{Gets, KeepsLimit, Puts};
-ghost use Rattle.mv_base.specs.declared.store.StoreFault.TheVariants.{NoMemory};
+ghost use Rattle.mv_base.specs.declared.store.StoreFault.TheVariants.{Failed, NoMemory};
 
 use crate::numbers;
 use std::alloc::{AllocError, AllocFailed};
+use std::io;
 use thiserror::Error;
 
 /// What `get` found.
@@ -34,6 +35,14 @@ impl From<numbers::NoMemory> for StoreFault {
 
     fn from(_error: numbers::NoMemory) -> StoreFault {
         StoreFault::NoMemory
+    }
+}
+
+impl From<io::Error> for StoreFault {
+    ghost from_gives = { λ _ fault. fault ≡ Failed };
+
+    fn from(_error: io::Error) -> StoreFault {
+        StoreFault::Failed
     }
 }
 
