@@ -7,6 +7,7 @@
 #![tactic(auto)]
 
 mod faults;
+pub mod file_store;
 pub mod lists;
 pub mod mem_sink;
 pub mod mem_store;
@@ -15,8 +16,10 @@ mod pieces;
 pub mod range;
 pub mod sink;
 pub mod status;
+pub mod std_sink;
 pub mod store;
 
+pub use file_store::FileStore;
 pub use lists::{Addrs, Bytes};
 pub use mem_sink::MemSink;
 pub use mem_store::MemStore;
@@ -24,4 +27,5 @@ pub use numbers::{NoMemory, put_decimal, put_hex8, u32_at};
 pub use range::{Range, RunPlace};
 pub use sink::{Sink, SinkFault};
 pub use status::Status;
+pub use std_sink::StdSink;
 pub use store::{Got, Store, StoreFault};
