@@ -1,5 +1,5 @@
 -- What reads and writes in pieces do to the bytes of a reader and a writer, where those are known.
-use Rattle.std.specs.Prelude.{◌≡◌, ℕ, List, ◌++◌, Option, IsSome}
+use Rattle.std.specs.Prelude.{◌≡◌, ℕ, List, ◌++◌, Option}
 use Rattle.std.specs.Io.KnownBytes.{Appends}
 
 -- the known bytes grow by a part with which the bytes begin

@@ -24,9 +24,9 @@ pub struct FileStore<'a, R: Files> {
 impl<'a, R: Files> FileStore<'a, R> {
     /// The files that `files` reaches. No call has failed yet.
     pub fn new(alloc: Global, files: &'a R) -> FileStore<'a, R>
-        ensures read_faults { result.read_faults ≡ 0 }
-        ensures write_faults { result.write_faults ≡ 0 }
-        ensures failed { string_bytes result.failed ≡ [] }
+        ensures read_faults { ⟦<FileStore<'a, R> as Store>⟧.read_faults result ≡ 0 }
+        ensures write_faults { ⟦<FileStore<'a, R> as Store>⟧.write_faults result ≡ 0 }
+        ensures failed { ⟦<FileStore<'a, R> as Store>⟧.failed result ≡ [] }
     {
         FileStore {
             files,

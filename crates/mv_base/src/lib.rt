@@ -18,6 +18,8 @@ pub mod sink;
 pub mod status;
 pub mod std_sink;
 pub mod store;
+#[cfg(test)]
+mod tests;
 
 pub use file_store::FileStore;
 pub use lists::{Addrs, Bytes};

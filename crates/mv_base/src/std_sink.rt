@@ -17,7 +17,7 @@ pub struct StdSink<'a, P: Print> {
 impl<'a, P: Print> StdSink<'a, P> {
     /// The output that `output` prints to. No call has failed yet.
     pub fn new(output: &'a P) -> StdSink<'a, P>
-        ensures { result.faults ≡ 0 }
+        ensures { ⟦<StdSink<'a, P> as Sink>⟧.faults result ≡ 0 }
     {
         StdSink { output, faults: 0 }
     }

@@ -1,5 +1,5 @@
 -- What was read so far is what the reader lost, and it is at most one byte over the limit.
-use Rattle.std.proofs.Common.{ℕ, ◌+◌, ◌-◌, ◌≤◌, length}
+use Rattle.std.proofs.Common.{◌+◌, ◌-◌, ◌≤◌, length}
 use Rattle.std.specs.Io.KnownBytes.{Consumes}
 use Rattle.mv_base.proofs.pieces.read_pieces.Given as goal
 
