@@ -4,6 +4,12 @@
 //! - `numbers`: little-endian numbers in bytes, and numbers as text.
 //! - `lists`: byte and address lists that contracts see as lists.
 //! - `range`: address ranges and the places of runs.
+//! - `store`, `sink`: what the program sees of the outside, as traits. Each says by ghost members what it holds or has
+//!   written, where it tells that, and counts its faults. Code that is generic over the trait can't raise a count, so an
+//!   answer that blames the outside is tied to a fault that happened.
+//! - `mem_store`, `mem_sink`: both in memory. They tell everything, and fail at the calls that they are told to.
+//! - `file_store`, `std_sink`: both over the system, a few lines each over `pieces`. They tell nothing of content, since
+//!   nobody can; that the system does what it is asked is trusted.
 #![tactic(auto)]
 
 mod faults;

@@ -20,9 +20,9 @@ fn numbers_are_read_and_written(rt: HostRuntime) -> Result<(), Fail> {
 #[test]
 fn memory_store_keeps_names(rt: HostRuntime) -> Result<(), Fail> {
     let alloc = rt.alloc();
+    let none = Vec::new(alloc);
     let second = vec![in alloc; 2u64]?;
-    let third = vec![in alloc; 3u64]?;
-    let mut store = MemStore::new(alloc, second, third)?;
+    let mut store = MemStore::new(alloc, second, none)?;
     store.add("a", b"one")?;
     assert_eq!(rt; store.put("b", b"two"), Ok(()));
     assert!(rt;
@@ -44,6 +44,15 @@ fn memory_store_keeps_names(rt: HostRuntime) -> Result<(), Fail> {
         Err(StoreFault::Failed)
     );
 
+    Ok(())
+}
+
+#[test]
+fn memory_store_fails_where_told(rt: HostRuntime) -> Result<(), Fail> {
+    let alloc = rt.alloc();
+    let none = Vec::new(alloc);
+    let second = vec![in alloc; 2u64]?;
+    let mut store = MemStore::new(alloc, none, second)?;
     assert_eq!(rt; store.put("a", b"1"), Ok(()));
     assert_eq!(rt; store.put("a", b"2"), Err(StoreFault::Failed));
     assert!(rt; store.file("a").is_some_and(|held| held == b"1".as_slice()));
