@@ -13,16 +13,14 @@ last_count = 2 ^ 64 - 1
 abbrev pub Rose : ℕ → ℕ → Type 0
 Rose before after = after ≢ last_count → before < after
 
--- a fault at a name: Failed raises the count and makes the name the failed one, and want of memory
--- leaves both as they were
+-- the fault Failed raises the count and makes the name the failed one; want of memory leaves both
 abbrev pub FaultCounts : StoreFault → ℕ → ℕ → List ℕ → List ℕ → List ℕ → Type 0
 FaultCounts store.Failed before after name failed_before failed_after =
     Rose before after × (failed_after ≡ name)
 FaultCounts store.NoMemory before after name failed_before failed_after =
     (after ≡ before) × (failed_after ≡ failed_before)
 
--- a store's call on a name counts its fault where it answers one, and leaves the count and the failed
--- name as they were where it answers none
+-- a store's call on a name counts the fault that it answers, and leaves the count where it answers none
 abbrev pub StoreCounts : {A : Type 0} → Result A StoreFault → ℕ → ℕ → List ℕ → List ℕ → List ℕ → Type 0
 StoreCounts (Ok _) before after name failed_before failed_after =
     (after ≡ before) × (failed_after ≡ failed_before)
@@ -35,7 +33,7 @@ SinkCounts (Ok _) before after = after ≡ before
 SinkCounts (Err sink.Failed) before after = Rose before after
 SinkCounts (Err sink.NoMemory) before after = after ≡ before
 
--- the number of the call after so many calls. Numbers begin at 1 and stand still at the last value
+-- the number of the next call after so many: numbers begin at 1 and stand still at the last value
 abbrev pub next_call : ℕ → ℕ
 next_call calls = min (calls + 1) last_count
 

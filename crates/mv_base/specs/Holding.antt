@@ -7,8 +7,7 @@ use Rattle.mv_base.specs.declared.store.Got.TheVariants.{Whole, TooLong}
 abbrev pub Begins : List ℕ → List ℕ → Type 0
 Begins part whole = (rest : List ℕ) × (whole ≡ part ++ rest)
 
--- `get` answers Whole with all that the name holds, TooLong only where the name holds more bytes
--- than the limit, and says nothing of the bytes where it fails
+-- `get` answers Whole with all that the name holds, and TooLong where that is more than the limit
 abbrev pub Gets : {E : Type 0} → Result Got E → Option (List ℕ) → ℕ → List ℕ → Type 0
 Gets (Ok Whole) held limit bytes = held ≡ Some bytes
 Gets (Ok TooLong) held limit bytes = IsSomeAnd held (λ all. limit < length all)
