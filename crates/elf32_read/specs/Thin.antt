@@ -1,17 +1,19 @@
 -- What stands in a file of the one form that is rewritten yet. The fields are those of ELF32; the form is this project's own.
-use Rattle.std.specs.Prelude.{◌≡◌, ℕ, ◌+◌, ◌-◌, ◌%◌, ◌<◌, ◌≤◌, Bool, true, false, List, [], ◌∷◌, length, take, drop, Option, Some, None, if◌then◌else◌, slice_index, nat_eq, nat_lt}
+use Rattle.std.specs.Prelude.{◌≡◌, ℕ, ◌+◌, ◌-◌, ◌%◌, ◌<◌, ◌≤◌, Bool, true, false, List, [], ◌∷◌, length, take, drop, Option, Some, None, if◌then◌else◌, slice_get, slice_index, nat_eq, nat_lt}
 use Rattle.std.specs.List.{starts_with}
-use Rattle.std.proofs.Common.{refl, arith, append-nil, length-take, length-drop}
+use Rattle.std.proofs.Common.{refl, ap, sym, ◌∙◌, arith, append-nil, length-take, length-drop}
+use Rattle.std.proofs.lemmas.List.{get_or-take, get_or-drop}
+use Rattle.std.proofs.lemmas.Option.{slice_get-get_or}
 use Rattle.std.proofs.lemmas.Bool.Decides.{nat_tests}
-use Rattle.mv_base.specs.Bytes.{half_at, word_at}
-use Rattle.mv_base.specs.Memory.{Cell, within, first_of}
+use Rattle.mv_base.specs.Bytes.{AreBytes, half_at, word_at}
+use Rattle.mv_base.specs.Memory.{Cell, IsMemory, within, first_of, exec_byte, exec_byte_of}
 use Rattle.elf32_read.specs.declared.image.Phdr.{Phdr}
 use Rattle.elf32_read.specs.declared.image.Segment.{Segment}
 use Rattle.elf32_read.specs.declared.run.Run.{Run}
 use Rattle.elf32_read.specs.Fields.{header_at, header_offset, header_count, headers, segment_of, segments, maps}
 use Rattle.elf32_read.specs.Faults.{is_thin, is_thin_head, is_thin_header}
 use Rattle.elf32_read.specs.Load.{load, segment_cell}
-use Rattle.elf32_read.specs.Runs.{segment_bytes, runs_of}
+use Rattle.elf32_read.specs.Runs.{segment_bytes, runs_of, code_of, AreApart}
 
 -- the ELF header of such a file, before one program header
 pub record IsThinHead (b : List ℕ) : Type 0 where
@@ -131,3 +133,96 @@ load-thin b thin a =
 -- a header of the form maps addresses
 pub maps-thin : (len : ℕ) (h : Phdr) → IsThinHeader len h → maps h ≡ true
 maps-thin len h facts = grind (arith, nat_tests)
+
+-- an address of a range, as two bounds
+pub within_bounds : (lo len a : ℕ) → within lo len a ≡ true → (lo ≤ a) × (a < lo + len)
+within_bounds lo len a inside = (grind (arith, nat_tests), grind (arith, nat_tests))
+
+-- an address of the segment has a cell with the file's byte, executable and not writable
+pub load-thin_inside : (b : List ℕ) → is_thin b ≡ true → (a : ℕ) → within (header_at b 52).vaddr (header_at b 52).memsz a ≡ true
+    → load b a ≡ Some (record { byte = slice_index b ((header_at b 52).offset + (a - (header_at b 52).vaddr)); write = false; exec = true })
+load-thin_inside b thin a inside = rw (load-thin b thin a, inside)
+
+-- no other address has a cell
+pub load-thin_outside : (b : List ℕ) → is_thin b ≡ true → (a : ℕ) → within (header_at b 52).vaddr (header_at b 52).memsz a ≡ false → load b a ≡ None
+load-thin_outside b thin a outside = rw (load-thin b thin a, outside)
+
+-- a cell of such a file: its address lies in the segment, and it is the file's byte, executable and not writable
+pub record IsThinCell (b : List ℕ) (h : Phdr) (a : ℕ) (c : Cell) : Type 0 where
+  pub from : h.vaddr ≤ a
+  pub below : a < h.vaddr + h.memsz
+  pub byte_is : c.byte ≡ slice_index b (h.offset + (a - h.vaddr))
+  pub write_is : c.write ≡ false
+  pub exec_is : c.exec ≡ true
+
+IsThinCell-by : (b : List ℕ) (h : Phdr) (a : ℕ) (c : Cell) (inside : Bool) → within h.vaddr h.memsz a ≡ inside
+    → (if inside then Some (record { byte = slice_index b (h.offset + (a - h.vaddr)); write = false; exec = true }) else None) ≡ Some c
+    → IsThinCell b h a c
+IsThinCell-by b h a c true inside is = record {
+  from = (within_bounds h.vaddr h.memsz a inside).0;
+  below = (within_bounds h.vaddr h.memsz a inside).1;
+  byte_is = cc;
+  write_is = cc;
+  exec_is = cc;
+}
+IsThinCell-by b h a c false outside is = cc
+
+pub IsThinCell-from_load : (b : List ℕ) → is_thin b ≡ true → (a : ℕ) (c : Cell) → load b a ≡ Some c → IsThinCell b (header_at b 52) a c
+IsThinCell-from_load b thin a c is =
+    IsThinCell-by b (header_at b 52) a c (within (header_at b 52).vaddr (header_at b 52).memsz a) refl (sym (load-thin b thin a) ∙ is)
+
+-- the memory of such a file has bytes, all below 0xFFFFF000
+pub IsMemory-load : (b : List ℕ) → is_thin b ≡ true → AreBytes b → IsMemory (load b)
+IsMemory-load b thin bytes = record {
+  low = λ a c is.
+      let cell = IsThinCell-from_load b thin a c is in
+      let facts = thin_header_facts b thin in
+      omega arith;
+  bytes = λ a c is.
+      let cell = IsThinCell-from_load b thin a c is in
+      rw cell.byte_is (bytes ((header_at b 52).offset + (a - (header_at b 52).vaddr)));
+}
+
+-- an element of a part of a list
+slice_get-part : (b : List ℕ) (o n k : ℕ) → o + n ≤ length b → k < n → slice_get (take n (drop o b)) k ≡ Some (slice_index b (o + k))
+slice_get-part b o n k inside below =
+    slice_get-get_or (take n (drop o b)) k 0 (simp (length-take, length-drop) (omega arith))
+    ∙ ap (λ x. Some x) (get_or-take n (drop o b) k 0 below ∙ get_or-drop o b k 0)
+
+-- the executable byte at an address of such a file
+abbrev pub thin_code : List ℕ → Phdr → ℕ → Option ℕ
+thin_code b h a = if within h.vaddr h.memsz a then Some (slice_index b (h.offset + (a - h.vaddr))) else None
+
+exec_byte_of-thin_cell : (b : List ℕ) (h : Phdr) (a : ℕ) → exec_byte_of (thin_cell b h a) ≡ thin_code b h a
+exec_byte_of-thin_cell b h a =
+    elim (within h.vaddr h.memsz a)
+    as (λ t. exec_byte_of (if t then Some (record { byte = slice_index b (h.offset + (a - h.vaddr)); write = false; exec = true }) else None)
+        ≡ (if t then Some (slice_index b (h.offset + (a - h.vaddr))) else None))
+    [ true ↦ refl | false ↦ refl ]
+
+pub exec_byte-load-thin : (b : List ℕ) → is_thin b ≡ true → (a : ℕ) → exec_byte (load b) a ≡ thin_code b (header_at b 52) a
+exec_byte-load-thin b thin a = rw (load-thin b thin a) (exec_byte_of-thin_cell b (header_at b 52) a)
+
+thin_code-part : (b : List ℕ) (h : Phdr) (a : ℕ) (inside : Bool) → within h.vaddr h.memsz a ≡ inside → IsThinHeader (length b) h
+    → (if inside then slice_get (take h.memsz (drop h.offset b)) (a - h.vaddr) else None)
+    ≡ (if inside then Some (slice_index b (h.offset + (a - h.vaddr))) else None)
+thin_code-part b h a true inside facts =
+    let bounds = within_bounds h.vaddr h.memsz a inside in
+    slice_get-part b h.offset h.memsz (a - h.vaddr) (omega arith) (omega arith)
+thin_code-part b h a false outside facts = refl
+
+pub code_of-runs_of-thin : (b : List ℕ) → is_thin b ≡ true → (a : ℕ) → code_of (runs_of b) a ≡ thin_code b (header_at b 52) a
+code_of-runs_of-thin b thin a =
+    rw (runs_of-thin b thin, length-thin_run b thin)
+    (thin_code-part b (header_at b 52) a (within (header_at b 52).vaddr (header_at b 52).memsz a) refl (thin_header_facts b thin))
+
+-- the runs have the executable bytes of the loaded file
+pub code_of-runs_of : (b : List ℕ) → is_thin b ≡ true → (a : ℕ) → exec_byte (load b) a ≡ code_of (runs_of b) a
+code_of-runs_of b thin a = exec_byte-load-thin b thin a ∙ sym (code_of-runs_of-thin b thin a)
+
+-- the runs stand apart
+pub AreApart-runs_of : (b : List ℕ) → is_thin b ≡ true → AreApart 0 (runs_of b)
+AreApart-runs_of b thin =
+    let facts = thin_header_facts b thin in
+    let len : length (take (header_at b 52).memsz (drop (header_at b 52).offset b)) ≡ (header_at b 52).memsz = length-thin_run b thin in
+    rw (runs_of-thin b thin) (omega arith, omega arith, omega arith, tt)
