@@ -1,17 +1,18 @@
 -- What stands in a file of the one form that is rewritten yet. The fields are those of ELF32; the form is this project's own.
-use Rattle.std.specs.Prelude.{◌≡◌, ℕ, ◌+◌, ◌-◌, ◌%◌, ◌<◌, ◌≤◌, Bool, true, false, List, [], ◌∷◌, length, take, drop, Option, Some, None, if◌then◌else◌, slice_get, slice_index, nat_eq, nat_lt}
+use Rattle.std.specs.Prelude.{◌≡◌, ℕ, ◌+◌, ◌-◌, ◌/◌, ◌%◌, ◌<◌, ◌≤◌, Bool, true, false, List, [], ◌∷◌, ◌++◌, length, take, drop, Option, Some, None, if◌then◌else◌, slice_get, slice_index, nat_eq, nat_lt}
 use Rattle.std.specs.List.{starts_with}
 use Rattle.std.proofs.Common.{refl, ap, sym, ◌∙◌, arith, append-nil, length-take, length-drop}
 use Rattle.std.proofs.lemmas.List.{get_or-take, get_or-drop}
 use Rattle.std.proofs.lemmas.Option.{slice_get-get_or}
-use Rattle.std.proofs.lemmas.Bool.Decides.{nat_tests}
+use Rattle.std.proofs.lemmas.Bool.Decides.{nat_tests, Decides-eqb}
+use Rattle.std.proofs.lemmas.Slice.Eq.{starts_is}
 use Rattle.mv_base.specs.Bytes.{AreBytes, half_at, word_at}
 use Rattle.mv_base.specs.Memory.{Cell, IsMemory, within, first_of, exec_byte, exec_byte_of}
 use Rattle.elf32_read.specs.declared.image.Phdr.{Phdr}
 use Rattle.elf32_read.specs.declared.image.Segment.{Segment}
 use Rattle.elf32_read.specs.declared.run.Run.{Run}
 use Rattle.elf32_read.specs.Fields.{header_at, header_offset, header_count, headers, segment_of, segments, maps}
-use Rattle.elf32_read.specs.Faults.{is_thin, is_thin_head, is_thin_header}
+use Rattle.elf32_read.specs.Faults.{is_thin, is_thin_head, is_thin_header, has_magic, head_fault, segment_fault, header_fault, headers_fault, load_refusal, limit_fault, refusal}
 use Rattle.elf32_read.specs.Load.{load, segment_cell}
 use Rattle.elf32_read.specs.Runs.{segment_bytes, runs_of, code_of, AreApart}
 
@@ -226,3 +227,49 @@ AreApart-runs_of b thin =
     let facts = thin_header_facts b thin in
     let len : length (take (header_at b 52).memsz (drop (header_at b 52).offset b)) ≡ (header_at b 52).memsz = length-thin_run b thin in
     rw (runs_of-thin b thin) (omega arith, omega arith, omega arith, tt)
+
+-- such a file begins with these seven bytes
+pub ident-thin : (b : List ℕ) → is_thin b ≡ true → b ≡ (0x7F ∷ 0x45 ∷ 0x4C ∷ 0x46 ∷ 1 ∷ 1 ∷ 1 ∷ []) ++ drop 7 b
+ident-thin b thin =
+    let head = thin_head_facts b thin in
+    (starts_is Decides-eqb b (0x7F ∷ 0x45 ∷ 0x4C ∷ 0x46 ∷ 1 ∷ 1 ∷ 1 ∷ []) true (sym head.begins)).0 refl
+
+begins_with_magic : (rest : List ℕ) → has_magic ((0x7F ∷ 0x45 ∷ 0x4C ∷ 0x46 ∷ 1 ∷ 1 ∷ 1 ∷ []) ++ rest) ≡ true
+begins_with_magic rest = refl
+
+has_magic-thin : (b : List ℕ) → is_thin b ≡ true → has_magic b ≡ true
+has_magic-thin b thin = ap has_magic (ident-thin b thin) ∙ begins_with_magic (drop 7 b)
+
+-- its ELF header has no fault
+pub head_fault-thin : (b : List ℕ) → is_thin b ≡ true → head_fault b ≡ None
+unfolding head_fault
+head_fault-thin b thin =
+    let head = thin_head_facts b thin in
+    let long : nat_lt (length b) 52 ≡ false = grind (arith, nat_tests) in
+    let magic : has_magic b ≡ true = has_magic-thin b thin in
+    let class : slice_index b 4 ≡ 1 = ap (λ s. slice_index s 4) (ident-thin b thin) in
+    let order : slice_index b 5 ≡ 1 = ap (λ s. slice_index s 5) (ident-thin b thin) in
+    let version : slice_index b 6 ≡ 1 = ap (λ s. slice_index s 6) (ident-thin b thin) in
+    let inside : nat_lt (length b) 84 ≡ false = grind (arith, nat_tests) in
+    rw (long, magic, class, order, head.i386, head.executable, version, head.version, head.size, head.header_size, head.header_count_is, head.header_offset_is, inside)
+
+-- its program header has no fault
+pub header_fault-thin : (len i : ℕ) (h : Phdr) → IsThinHeader len h → header_fault len 0 i h ≡ None
+unfolding header_fault segment_fault
+header_fault-thin len i h facts =
+    let low : nat_lt 0xFFFFF000 (h.vaddr + h.memsz) ≡ false = grind (arith, nat_tests) in
+    let mapped : nat_lt 0 h.memsz ≡ true = grind (arith, nat_tests) in
+    let inside : nat_lt len (h.offset + h.filesz) ≡ false = grind (arith, nat_tests) in
+    let filled : nat_lt h.memsz h.filesz ≡ false = grind (arith, nat_tests) in
+    let congruent : nat_eq (h.offset % 4096) (h.vaddr % 4096) ≡ true = grind (arith, nat_tests) in
+    let free : nat_lt (h.vaddr / 4096) 0 ≡ false = grind (arith, nat_tests) in
+    grind (arith, nat_tests)
+
+-- such a file has no fault
+pub refusal-thin : (b : List ℕ) → is_thin b ≡ true → refusal b ≡ None
+unfolding refusal load_refusal limit_fault headers_fault
+refusal-thin b thin =
+    let head = thin_head_facts b thin in
+    let facts = thin_header_facts b thin in
+    let small : nat_lt 4194304 (0 + (header_at b 52).memsz) ≡ false = grind (arith, nat_tests) in
+    rw (head_fault-thin b thin, headers-thin b thin, header_fault-thin (length b) 0 (header_at b 52) facts, facts.kind_is, segments-thin b thin, head.header_count_is, small)
