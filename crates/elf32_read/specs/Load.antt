@@ -8,7 +8,7 @@ use Rattle.elf32_read.specs.Fields.{segments}
 unfoldable pub segment_cell : List ℕ → Segment → ℕ → Option Cell
 segment_cell b s a =
     if within s.range.lo s.range.len a then
-        Some (record { byte = if nat_lt (a - s.range.lo) s.filesz then slice_index b (s.offset + (a - s.range.lo)) else 0; write = s.write; exec = s.exec })
+    Some (record { byte = if nat_lt (a - s.range.lo) s.filesz then slice_index b (s.offset + (a - s.range.lo)) else 0; write = s.write; exec = s.exec })
     else None
 
 abbrev pub load_in : List ℕ → List Segment → Memory

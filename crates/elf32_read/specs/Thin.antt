@@ -198,7 +198,7 @@ exec_byte_of-thin_cell : (b : List ℕ) (h : Phdr) (a : ℕ) → exec_byte_of (t
 exec_byte_of-thin_cell b h a =
     elim (within h.vaddr h.memsz a)
     as (λ t. exec_byte_of (if t then Some (record { byte = slice_index b (h.offset + (a - h.vaddr)); write = false; exec = true }) else None)
-        ≡ (if t then Some (slice_index b (h.offset + (a - h.vaddr))) else None))
+    ≡ (if t then Some (slice_index b (h.offset + (a - h.vaddr))) else None))
     [ true ↦ refl | false ↦ refl ]
 
 pub exec_byte-load-thin : (b : List ℕ) → is_thin b ≡ true → (a : ℕ) → exec_byte (load b) a ≡ thin_code b (header_at b 52) a
@@ -273,3 +273,9 @@ refusal-thin b thin =
     let facts = thin_header_facts b thin in
     let small : nat_lt 4194304 (0 + (header_at b 52).memsz) ≡ false = grind (arith, nat_tests) in
     rw (head_fault-thin b thin, headers-thin b thin, header_fault-thin (length b) 0 (header_at b 52) facts, facts.kind_is, segments-thin b thin, head.header_count_is, small)
+
+-- the two laws of the runs
+pub ruleset run_laws = (code_of-runs_of, AreApart-runs_of)
+
+-- the law of the faults
+pub ruleset fault_law = refusal-thin

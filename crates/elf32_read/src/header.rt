@@ -12,6 +12,7 @@ pub const PHDR_SIZE: usize = 32;
 
 /// The flags of a segment that may be executed, and of one that may be written (System V gABI, segment flags).
 const PF_X: u32 = 1;
+
 const PF_W: u32 = 2;
 
 /// The program header whose 32 bytes begin at `place`.

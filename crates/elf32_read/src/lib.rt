@@ -17,3 +17,7 @@ pub use fault::ImageFault;
 pub use image::{Headers, Image, Phdr, Segment, Segments};
 pub use reader::{ReadImage, read_image};
 pub use run::{Run, runs};
+pub use thin::thin_has_no_fault;
+
+#[cfg(test)]
+mod tests;

@@ -12,14 +12,23 @@ use crate::image::{Headers, Image, Phdr, Segments};
 use crate::thin::{HEADER_PLACE, has_thin_head, is_thin_header};
 use mv_base::NoMemory;
 use std::alloc::Global;
+use thiserror::Error;
 
 /// Why a file was not read: its first fault, or want of memory.
+#[derive(Clone, Copy, Debug, Drop, Error)]
 pub enum ReadImage {
+    #[error("{0}")]
     Bad(ImageFault),
+    #[error("no memory")]
     NoMemory,
 }
 
 impl From<NoMemory> for ReadImage {
+    ghost use Rattle.std.specs.Prelude.{◌≡◌};
+    ghost use Rattle.elf32_read.specs.declared.reader.ReadImage.TheVariants.{NoMemory as WantsMemory};
+
+    ghost from_gives = { λ _ e. e ≡ WantsMemory };
+
     fn from(_error: NoMemory) -> ReadImage {
         ReadImage::NoMemory
     }
@@ -40,17 +49,13 @@ pub fn read_image(alloc: Global, bytes: &[u8]) -> Result<Image, ReadImage>
     if !is_thin_header(bytes.len(), &header) {
         return Err(ReadImage::Bad(ImageFault::NotYet));
     }
-    match thin_image(alloc, bytes, &header) {
-        Ok(image) => Ok(image),
-        Err(NoMemory) => Err(ReadImage::NoMemory),
-    }
+    Ok(thin_image(alloc, bytes, &header)?)
 }
 
 /// The image of a file of the one form, whose program header this is.
 fn thin_image(alloc: Global, bytes: &[u8], header: &Phdr) -> Result<Image, NoMemory>
     requires thin { is_thin bytes.now ≡ true }
     requires header { header.now ≡ header_at bytes.now 52 }
-    requires room { 84 ≤ length bytes.now }
     ensures { IfOk result (IsImage bytes.now) }
 {
     let headers = vec![in alloc; *header]?;

@@ -23,6 +23,7 @@ pub struct Run {
 /// # Errors
 ///
 /// `NoMemory`.
+#[tactic(auto, using(crate::specs::Thin::run_laws))]
 pub fn runs(alloc: Global, image: &Image, bytes: &[u8]) -> Result<Vec<Run>, NoMemory>
     requires { IsImage bytes.now image.now }
     ensures list { IfOk result (λ rs. rs.items ≡ runs_of bytes.now) }

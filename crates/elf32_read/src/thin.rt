@@ -1,8 +1,8 @@
 //! The one form of file that is rewritten yet: an ELF header, and behind it one program header that maps code.
 
-ghost use Rattle.std.specs.Prelude.{◌≡◌, ◌≤◌, ◌&&◌, ◌∷◌, [], length, nat_le, nat_eq, IsTrue};
+ghost use Rattle.std.specs.Prelude.{◌≡◌, ◌≤◌, ◌&&◌, ◌∷◌, ℕ, List, [], None, length, nat_le, nat_eq, true, IsTrue};
 ghost use Rattle.std.specs.List.{starts_with};
-ghost use Rattle.elf32_read.specs.Faults.{is_thin_head, is_thin_header as is_thin_phdr};
+ghost use Rattle.elf32_read.specs.Faults.{is_thin, is_thin_head, is_thin_header as is_thin_phdr, refusal};
 
 use crate::field::{u16_field, u32_field};
 use crate::image::Phdr;
@@ -15,7 +15,9 @@ const IDENT: [u8; 7] = [0x7F, b'E', b'L', b'F', 1, 1, 1];
 
 /// The type of an executable file, the machine i386 and the one version (System V gABI, ELF header).
 const ET_EXEC: u16 = 2;
+
 const EM_386: u16 = 3;
+
 const EV_CURRENT: u32 = 1;
 
 /// A header of a segment to be loaded (System V gABI, program header).
@@ -95,3 +97,10 @@ pub fn is_thin_header(len: usize, header: &Phdr) -> bool
     }
     header.offset % 4096 == header.vaddr % 4096
 }
+
+/// A file of the one form has none of the faults that keep a file from being rewritten. The call does nothing;
+/// its clause is the law.
+#[tactic(auto, using(crate::specs::Thin::fault_law))]
+pub fn thin_has_no_fault()
+    ensures whole { (b : List ℕ) → is_thin b ≡ true → refusal b ≡ None }
+{}

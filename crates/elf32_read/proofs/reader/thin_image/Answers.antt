@@ -3,7 +3,7 @@ use Rattle.std.proofs.Common.{◌≡◌, ◌∷◌, [], length, Some, ap, sym, �
 use Rattle.elf32_read.specs.declared.image.Segment.{Segment}
 use Rattle.elf32_read.specs.declared.image.Phdr.{Phdr}
 use Rattle.elf32_read.specs.Fields.{header_at, headers, segments, segment_of}
-use Rattle.elf32_read.specs.Thin.{thin_segment, thin_header_facts, headers-thin, segments-thin, segment_of-thin, maps-thin}
+use Rattle.elf32_read.specs.Thin.{thin_segment, thin_head_facts, thin_header_facts, headers-thin, segments-thin, segment_of-thin, maps-thin}
 use Rattle.elf32_read.proofs.reader.thin_image.Goals as goal
 
 -- the segment that a header of the form gives
@@ -18,6 +18,21 @@ pub segment_of-requires-clause-fits : goal.segment_of-requires-clause-fits
 segment_of-requires-clause-fits c =
     let facts = thin_header_facts c.args.bytes.now c.requires.thin in
     rw c.requires.header (omega arith)
+
+pub u32_field-requires : goal.u32_field-requires
+u32_field-requires c =
+    let head = thin_head_facts c.args.bytes.now c.requires.thin in
+    omega arith
+
+pub u32_field-requires-2 : goal.u32_field-requires-2
+u32_field-requires-2 c =
+    let head = thin_head_facts c.args.bytes.now c.requires.thin in
+    omega arith
+
+pub ident_rest-requires : goal.ident_rest-requires
+ident_rest-requires c =
+    let head = thin_head_facts c.args.bytes.now c.requires.thin in
+    omega arith
 
 pub returns : goal.returns
 returns c = record {
