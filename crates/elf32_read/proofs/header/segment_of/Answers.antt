@@ -1,5 +1,4 @@
 -- The segment of a header has its fields, and its marks are two flags.
-use Rattle.std.proofs.Common.{arith}
 use Rattle.elf32_read.proofs.Flags.{has_flag_1, has_flag_2}
 use Rattle.elf32_read.proofs.header.segment_of.Goals as goal
 

@@ -2,7 +2,7 @@
 use Rattle.std.proofs.Common.{◌≡◌, ◌∷◌, [], length, Some, ap, sym, ◌∙◌, arith}
 use Rattle.elf32_read.specs.declared.image.Segment.{Segment}
 use Rattle.elf32_read.specs.declared.image.Phdr.{Phdr}
-use Rattle.elf32_read.specs.Fields.{header_at, headers, segments, segment_of}
+use Rattle.elf32_read.specs.Fields.{header_at, segment_of}
 use Rattle.elf32_read.specs.Thin.{thin_segment, thin_head_facts, thin_header_facts, headers-thin, segments-thin, segment_of-thin, maps-thin}
 use Rattle.elf32_read.proofs.reader.thin_image.Goals as goal
 

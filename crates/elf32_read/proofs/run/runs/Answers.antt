@@ -1,10 +1,9 @@
 -- The image has one segment, and its bytes are those of the run.
-use Rattle.std.proofs.Common.{◌≡◌, ℕ, ◌∷◌, [], List, length, take, drop, ap, sym, ◌∙◌, get_or, true, arith}
+use Rattle.std.proofs.Common.{◌≡◌, ℕ, ◌∷◌, [], List, take, drop, ap, sym, ◌∙◌, get_or, true, arith}
 use Rattle.elf32_read.specs.declared.image.Segment.{Segment}
 use Rattle.elf32_read.specs.declared.run.Run.{Run}
 use Rattle.elf32_read.specs.Fields.{header_at, segments}
 use Rattle.elf32_read.specs.Faults.{is_thin}
-use Rattle.elf32_read.specs.Runs.{runs_of}
 use Rattle.elf32_read.specs.Thin.{thin_segment, thin_run, thin_header_facts, segments-thin, runs_of-thin}
 use Rattle.elf32_read.proofs.run.runs.Goals as goal
 
