@@ -7,12 +7,10 @@ use crate::field::u32_field;
 use crate::image::{Phdr, Segment};
 use mv_base::Range;
 
-/// The size of a program header, in bytes (System V gABI, ELF32 program header).
-pub const PHDR_SIZE: usize = 32;
-
-/// The flags of a segment that may be executed, and of one that may be written (System V gABI, segment flags).
+/// The flag of a segment that may be executed (System V gABI, segment flags).
 const PF_X: u32 = 1;
 
+/// The flag of a segment that may be written (System V gABI, segment flags).
 const PF_W: u32 = 2;
 
 /// The program header whose 32 bytes begin at `place`.

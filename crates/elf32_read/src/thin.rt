@@ -7,29 +7,37 @@ ghost use Rattle.elf32_read.specs.Faults.{is_thin, is_thin_head, is_thin_header 
 use crate::field::{u16_field, u32_field};
 use crate::image::Phdr;
 
-/// The place of the one program header, behind the 52 bytes of the ELF header.
+/// The place of the one program header in the file, behind the ELF header.
 pub const HEADER_PLACE: usize = 52;
 
 /// The magic, then class 1 (32 bits), data 1 (little-endian) and version 1 (System V gABI, ELF identification).
 const IDENT: [u8; 7] = [0x7F, b'E', b'L', b'F', 1, 1, 1];
 
-/// The type of an executable file, the machine i386 and the one version (System V gABI, ELF header).
+/// The type of an executable file (System V gABI, ELF header).
 const ET_EXEC: u16 = 2;
 
+/// The machine i386 (System V gABI, ELF header).
 const EM_386: u16 = 3;
 
+/// The one version (System V gABI, ELF header).
 const EV_CURRENT: u32 = 1;
 
-/// A header of a segment to be loaded (System V gABI, program header).
+/// The size of the ELF header, in bytes (System V gABI, ELF32).
+const EHDR_SIZE: u16 = 52;
+
+/// The size of a program header, in bytes (System V gABI, ELF32).
+const PHDR_SIZE: u16 = 32;
+
+/// The kind of a header whose segment is to be loaded (System V gABI, program header).
 const PT_LOAD: u32 = 1;
 
 /// The flags of a segment that can be read and executed, and not written.
 const READ_EXECUTE: u32 = 5;
 
-/// The most bytes of code that are rewritten.
+/// The most bytes of code that are rewritten (this project's own).
 const MOST_CODE: u32 = 4_194_304;
 
-/// The end of the addresses that a segment may have.
+/// The end of the addresses that a segment may have (this project's own).
 const ADDRESS_END: u64 = 0xFFFF_F000;
 
 /// Whether the file has room for both headers and begins as such a file does.
@@ -60,16 +68,16 @@ pub fn has_thin_head(bytes: &[u8]) -> bool
     if u32_field(bytes, 28) != 52 {
         return false;
     }
-    if u16_field(bytes, 40) != 52 {
+    if u16_field(bytes, 40) != EHDR_SIZE {
         return false;
     }
-    if u16_field(bytes, 42) != 32 {
+    if u16_field(bytes, 42) != PHDR_SIZE {
         return false;
     }
     u16_field(bytes, 44) == 1
 }
 
-/// Whether the program header is that of such a file, whose length is `len` bytes.
+/// Whether the program header is that of such a file, which has `len` bytes.
 #[tactic(auto, unfolding(crate::specs::Faults::is_thin_header))]
 pub fn is_thin_header(len: usize, header: &Phdr) -> bool
     ensures { result ≡ is_thin_phdr len header.now }
