@@ -1,6 +1,6 @@
 //! The maximal ranges of executable addresses, with their bytes.
 
-ghost use Rattle.std.specs.Prelude.{◌≡◌, ◌+◌, ◌≤◌, ℕ, length, take, drop, IfOk};
+ghost use Rattle.std.specs.Prelude.{◌≡◌, ◌+◌, ◌≤◌, ◌∷◌, ℕ, [], length, take, drop, IfOk};
 ghost use Rattle.mv_base.specs.Memory.{exec_byte};
 ghost use Rattle.elf32_read.specs.Load.{load};
 ghost use Rattle.elf32_read.specs.Reading.{IsImage};
@@ -32,9 +32,17 @@ pub fn runs(alloc: Global, image: &Image, bytes: &[u8]) -> Result<Vec<Run>, NoMe
     ensures code { (a : ℕ) → exec_byte (load bytes.now) a ≡ code_of (runs_of bytes.now) a }
     ensures apart { AreApart 0 (runs_of bytes.now) }
 {
-    let segment = image.segments.as_slice()[0];
-    let run = filled_run(alloc, &segment, bytes)?;
+    let run = only_run(alloc, image, bytes)?;
     Ok(vec![in alloc; run]?)
+}
+
+/// The run of an image's one segment.
+fn only_run(alloc: Global, image: &Image, bytes: &[u8]) -> Result<Run, NoMemory>
+    requires { IsImage bytes.now image.now }
+    ensures { IfOk result (λ r. runs_of bytes.now ≡ r ∷ []) }
+{
+    let segment = image.segments.as_slice()[0];
+    filled_run(alloc, &segment, bytes)
 }
 
 /// The addresses of a segment, with the bytes of the file that it has.
