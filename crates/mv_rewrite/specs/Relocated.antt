@@ -11,8 +11,11 @@ use Rattle.mv_rewrite.specs.Pieces.{piece, with_join}
 use Rattle.mv_rewrite.specs.Frame.{Frame, frame, frame_map, is_added, is_private}
 
 -- a cell that may not be executed
+abbrev pub idle_cell : Cell → Cell
+idle_cell c = record c { exec = false }
+
 abbrev pub without_exec : Option Cell → Option Cell
-without_exec c = option_map (λ c. record c { exec = false }) c
+without_exec c = option_map idle_cell c
 
 -- these bytes stand from an address on in the added range but not in its private area, and may be executed and not written
 pub record StandAt (x : List ℕ) (f : Frame) (at : ℕ) (bytes : List ℕ) : Type 0 where
