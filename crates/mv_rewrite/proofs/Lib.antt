@@ -1,2 +1,5 @@
 pub mod Decoding
 pub mod NearJump
+pub mod Cells
+pub mod Likeness
+pub mod EffectsAlike
