@@ -3,3 +3,4 @@ pub mod NearJump
 pub mod Cells
 pub mod Likeness
 pub mod EffectsAlike
+pub mod Copied
