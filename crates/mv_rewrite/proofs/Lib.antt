@@ -4,3 +4,5 @@ pub mod Cells
 pub mod Likeness
 pub mod EffectsAlike
 pub mod Copied
+pub mod Table
+pub mod Standing
