@@ -6,3 +6,4 @@ pub mod EffectsAlike
 pub mod Copied
 pub mod Table
 pub mod Standing
+pub mod OneStep

@@ -15,7 +15,7 @@ abbrev is_trap : Flow → Bool
 is_trap flow.Trap = true
 is_trap _ = false
 
-abbrev is_jump : Flow → Bool
+abbrev pub is_jump : Flow → Bool
 is_jump flow.Jump = true
 is_jump _ = false
 
@@ -58,8 +58,8 @@ unfolding hop
 hop_halts (insn.Jump rel) next c other = absurd (other refl)
 hop_halts _ next c other = refl
 
-pub other_stops : (s : State) (i : Insn) (next : ℕ) → (flow_of i ≡ flow.Jump → ⊥) → after_hop s (turn s.memory (hop next i s.core)) ≡ Stopped Outside s
-other_stops s i next other = ap (after_hop s) (turn_halts s.memory (hop next i s.core) Outside (hop_halts i next s.core other))
+pub other_stops : (s : State) (i : Insn) (next : ℕ) (fl : Flow) → is_jump fl ≡ false → flow_of i ≡ fl → after_hop s (turn s.memory (hop next i s.core)) ≡ Stopped Outside s
+other_stops s i next fl other k = ap (after_hop s) (turn_halts s.memory (hop next i s.core) Outside (hop_halts i next s.core (λ j. true≢false (ap is_jump (sym j ∙ k) ∙ other))))
 
 -- an instruction of flow Jump is a direct jump
 pub is_direct : (i : Insn) → flow_of i ≡ flow.Jump → (rel : ℕ) × (i ≡ insn.Jump rel)
