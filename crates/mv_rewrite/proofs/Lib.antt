@@ -7,3 +7,5 @@ pub mod Copied
 pub mod Table
 pub mod Standing
 pub mod OneStep
+pub mod Bounded
+pub mod Paces
