@@ -17,7 +17,7 @@ use Rattle.mv_rewrite.proofs.Bounded.{load_low}
 use Rattle.mv_rewrite.proofs.Cells.{may_execute, exec_cell_none}
 use Rattle.mv_rewrite.proofs.Likeness.{Alike, added_low}
 use Rattle.mv_rewrite.proofs.Copied.{StatesAlike}
-use Rattle.mv_rewrite.proofs.OneStep.{IsSound, agree_of, Comes, one_more, step_comes, step_sound}
+use Rattle.mv_rewrite.proofs.OneStep.{IsSound, agree_of, Comes, one_more, none_yet, step_comes, step_sound}
 
 -- ---- runs
 
@@ -139,3 +139,52 @@ module _ (b x : List ℕ) (f : Frame) (rel : IsRelocated b x f) where
       pace : List ℕ
       keeps : IsPace (AgreeAt b x f s answers) (step_bound f) n pace
       sound : (o : State) → run_state b s answers n ≡ Some o → IsSound o
+
+    begins : IsClear b f s answers 0 → Followed 0
+    begins clear = record {
+      pace = 0 ∷ [];
+      keeps = (refl, both_from (λ o t. Agree b x f o t (executions (run_state b s answers) 0)) _ _ (begin b s answers) (begin x s answers) (start_of b) (start_of x) (begin_agree s answers _ start clear.start));
+      sound = λ o e. subst IsSound (same_Some (begin b s answers) o (sym (start_of b) ∙ e)) (begin_sound s answers start good);
+    }
+      where
+        start_of : (file : List ℕ) → run_state file s answers 0 ≡ Some (begin file s answers)
+        start_of file = none_yet (begin file s answers)
+
+    goes_on : (n : ℕ) → is_some (run_state b s answers (suc n)) ≡ true → IsClear b f s answers (suc n) → Followed n → Followed (suc n)
+    goes_on n there clear h = from (last_step n (begin b s answers) there)
+      where
+        from : LastStep n (begin b s answers) → Followed (suc n)
+        from l =
+            let at = pace_at (AgreeAt b x f s answers) (step_bound f) n h.pace h.keeps in
+            let other = both_other (λ o t. Agree b x f o t (executions (run_state b s answers) n)) _ (run_state x s answers (newest h.pace)) l.before l.there at in
+            let own = h.sound l.before l.there in
+            let comes = step_comes b x f rel l.before l.after other.0 _ own other.2 (clear.steps n (omega arith) l.before l.there) l.steps in
+            let agree = agree_of b x f l.after comes.state (executions (run_state b s answers) (suc n)) rel.uncounted comes.alike comes.place in
+            let first = one_more n (begin b s answers) l.before l.after l.there l.steps in
+            let second = later comes.count (newest h.pace) (begin x s answers) other.0 comes.state other.1 comes.comes in
+            record {
+              pace = (newest h.pace + comes.count) ∷ h.pace;
+              keeps = (omega (arith, comes.some), omega (arith, comes.most), both_from (λ o t. Agree b x f o t (executions (run_state b s answers) (suc n))) _ _ l.after comes.state first second agree, h.keeps);
+              sound = λ o e. subst IsSound (same_Some l.after o (sym first ∙ e)) (step_sound b x f rel l.before l.after other.0 own comes l.steps);
+            }
+
+    earlier : (n : ℕ) → is_some (run_state b s answers (suc n)) ≡ true → is_some (run_state b s answers n) ≡ true
+    earlier n there = ap is_some (last_step n (begin b s answers) there).there
+
+    clear_before : (n : ℕ) → IsClear b f s answers (suc n) → IsClear b f s answers n
+    clear_before n clear = record { start = clear.start; steps = λ j h o e. clear.steps j (omega arith) o e }
+
+    followed : (n : ℕ) → is_some (run_state b s answers n) ≡ true → IsClear b f s answers n → Followed n
+    followed zero there clear = begins clear
+    followed (suc n) there clear = goes_on n there clear (followed n (earlier n there) (clear_before n clear))
+
+    follows_in : (n : ℕ) → FollowsIn b x f s answers n
+    follows_in n there clear = let h = followed n there clear in (h.pace, h.keeps)
+
+-- the run of a relocated output follows the run of its input
+pub follows : (b x : List ℕ) (f : Frame) → IsRelocated b x f → Follows b x
+follows b x f rel = record {
+  admitted = rel.admitted;
+  framed = (f, rel.framed);
+  runs = λ g e s answers n start good. subst (λ g. FollowsIn b x g s answers n) (same_Some f g (sym rel.framed ∙ e)) (follows_in b x f rel s answers start good n);
+}
