@@ -9,3 +9,4 @@ pub mod Standing
 pub mod OneStep
 pub mod Bounded
 pub mod Paces
+pub mod Stops

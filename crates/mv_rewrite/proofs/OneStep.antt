@@ -108,11 +108,11 @@ answers_left s u h e = subst LeavesAnswers e (stepped_leaves s h (fetch s.memory
 
 -- ---- slots
 
-abbrev site_of : State → Insn → ℕ → Site
+abbrev pub site_of : State → Insn → ℕ → Site
 site_of o i n = record { at = o.eip; len = n; insn = i }
 
 -- the piece and the join of a site, by its flow
-abbrev slot_bytes : List ℕ → Frame → Site → Flow → List ℕ
+abbrev pub slot_bytes : List ℕ → Frame → Site → Flow → List ℕ
 slot_bytes b f s fl = joined_by fl (piece_of fl (frame_map f) (code_in b) (frame_map f s.at) s)
   where
     joined_by : Flow → List ℕ → List ℕ
@@ -145,7 +145,7 @@ next_parts u v e = ap state_of e
     state_of (Next s) = s
     state_of (Stopped why s) = u
 
-stopped_next : {P : Type 0} (why : Stop) (u v : State) → Stopped why u ≡ Next v → P
+pub stopped_next : {P : Type 0} (why : Stop) (u v : State) → Stopped why u ≡ Next v → P
 stopped_next why u v e = absurd (subst Stops e tt)
   where
     Stops : Outcome → Type 0
@@ -154,15 +154,15 @@ stopped_next why u v e = absurd (subst Stops e tt)
 
 module _ (b x : List ℕ) (f : Frame) (rel : IsRelocated b x f) where
   -- the input's code stays its file's
-  code_same : (o t : State) → StatesAlike (Alike b x f) o t → exec_byte o.memory ≡ code_in b
+  pub code_same : (o t : State) → StatesAlike (Alike b x f) o t → exec_byte o.memory ≡ code_in b
   code_same o t s = fun_ext (λ a. sym (exec_cell_byte (o.memory a)) ∙ ap exec_byte_of (s.memory.code a) ∙ exec_cell_byte (load b a))
 
   -- the instruction is that of the input's file
-  site_code : (o t : State) (i : Insn) (n : ℕ) → StatesAlike (Alike b x f) o t → fetch o.memory o.eip ≡ Found i n → fetch_in (code_in b) o.eip ≡ Found i n
+  pub site_code : (o t : State) (i : Insn) (n : ℕ) → StatesAlike (Alike b x f) o t → fetch o.memory o.eip ≡ Found i n → fetch_in (code_in b) o.eip ≡ Found i n
   site_code o t i n s e = subst (λ (code : ℕ → Option ℕ). fetch_in code o.eip ≡ Found i n) (code_same o t s) e
 
   -- the site's piece and join stand where it is mapped
-  slot_stands : (o t : State) (i : Insn) (n : ℕ) (fl : Flow) → StatesAlike (Alike b x f) o t → fetch o.memory o.eip ≡ Found i n → flow_of i ≡ fl → StandAt x f (frame_map f o.eip) (slot_bytes b f (site_of o i n) fl)
+  pub slot_stands : (o t : State) (i : Insn) (n : ℕ) (fl : Flow) → StatesAlike (Alike b x f) o t → fetch o.memory o.eip ≡ Found i n → flow_of i ≡ fl → StandAt x f (frame_map f o.eip) (slot_bytes b f (site_of o i n) fl)
   slot_stands o t i n fl s e k =
       subst (λ g. StandAt x f (frame_map f o.eip) (slot_bytes b f (site_of o i n) g)) k (rel.pieces o.eip (site_of o i n) (ap (site_found o.eip) (site_code o t i n s e)))
 
@@ -201,13 +201,20 @@ module _ (b x : List ℕ) (f : Frame) (rel : IsRelocated b x f) where
         place = ap (frame_map f) (sym a.1);
       }
 
+  -- the copy comes to the outcome of the instruction, completed or stopped
+  pub copied_alike : (o t : State) (i : Insn) (n : ℕ) (fl : Flow) (rest : List ℕ) → IsCopied fl → IsSound o → StatesAlike (Alike b x f) o t → t.eip ≡ frame_map f o.eip → fetch o.memory o.eip ≡ Found i n → flow_of i ≡ fl → AllByRecursion (IsClearEffect b f) (effects_by_flow fl o.answers) → StandAt x f (frame_map f o.eip) (exec_bytes (code_in b) o.eip n ++ rest) → IsClearOutcome f (executed o i (address_after o.eip n) fl) → OutcomeAlike (Alike b x f) (address_after o.eip n) (address_after (frame_map f o.eip) n) (executed o i (address_after o.eip n) fl) (step t)
+  copied_alike o t i n fl rest copied sound s place e k h stand clear =
+      let at = address_after o.eip n in
+      let to = address_after (frame_map f o.eip) n in
+      let own = copy_step o t i n rest s place e stand ∙ ap (executed t i to) k in
+      subst (OutcomeAlike (Alike b x f) at to (executed o i at fl)) (sym own) (executed_alike b x f rel o t i at to fl copied s sound.answers h clear)
+
   copied_comes : (o o' t : State) (i : Insn) (n : ℕ) (fl : Flow) → IsCopied fl → IsSound o → StatesAlike (Alike b x f) o t → t.eip ≡ frame_map f o.eip → fetch o.memory o.eip ≡ Found i n → flow_of i ≡ fl → AllByRecursion (IsClearEffect b f) (effects_by_flow fl o.answers) → StandAt x f (frame_map f o.eip) (exec_bytes (code_in b) o.eip n ++ jump_bytes (frame_map f o.eip + length (exec_bytes (code_in b) o.eip n)) (frame_map f (address_after o.eip n))) → executed o i (address_after o.eip n) fl ≡ Next o' → Comes b x f o' t
   copied_comes o o' t i n fl copied sound s place e k h stand st =
       let at = address_after o.eip n in
       let to = address_after (frame_map f o.eip) n in
-      let same = executed_alike b x f rel o t i at to fl copied s sound.answers h (subst (IsClearOutcome f) (sym st) tt) in
-      let own = copy_step o t i n _ s place e stand ∙ ap (executed t i to) k in
-      join_comes o o' t i n (executed t i to fl) s e stand own (subst (λ p. OutcomeAlike (Alike b x f) at to p (executed t i to fl)) st same)
+      let same = copied_alike o t i n fl _ copied sound s place e k h stand (subst (IsClearOutcome f) (sym st) tt) in
+      join_comes o o' t i n (step t) s e stand refl (subst (λ p. OutcomeAlike (Alike b x f) at to p (step t)) st same)
 
   -- ---- direct jumps
 
