@@ -1,10 +1,10 @@
 -- Cells and their marks, and where an access faults.
-use Rattle.std.proofs.Common.{◌≡◌, ℕ, zero, suc, ◌+◌, ◌-◌, ◌%◌, ◌^◌, ◌<◌, ◌≤◌, Bool, true, false, not, ◌&&◌, List, [], ◌∷◌, length, Option, Some, None, is_some, option_map, slice_index, if◌then◌else◌, nat_lt, nat_le, refl, sym, ap, ap₂, ◌∙◌, subst, arith}
-use Rattle.std.proofs.lemmas.Bool.{both_ways, and_parts, cond-true, cond-false}
-use Rattle.std.proofs.lemmas.Option.{none-some, same_Some}
+use Rattle.std.proofs.Common.{◌≡◌, ℕ, zero, suc, ◌+◌, ◌^◌, ◌<◌, ◌≤◌, Bool, true, false, ◌∷◌, Option, Some, None, is_some, if◌then◌else◌, refl, sym, ap, ap₂, ◌∙◌, subst, arith}
+use Rattle.std.proofs.lemmas.Bool.{both_ways, cond-true, cond-false}
+use Rattle.std.proofs.lemmas.Option.{none-some}
 use Rattle.mv_base.specs.Memory.{Cell, Memory, cell_is, exec_byte_of, is_mapped, byte_of, address_after, first_failing, bytes_at}
 use Rattle.mv_rewrite.specs.Frame.{Frame, is_added}
-use Rattle.mv_rewrite.specs.Simulation.{shown, marks, exec_cell}
+use Rattle.mv_rewrite.specs.Simulation.{shown, exec_cell}
 
 -- ---- cells
 

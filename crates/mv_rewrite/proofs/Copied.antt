@@ -1,17 +1,17 @@
 -- The law of copied bytes: an instruction that both runs execute comes to the same outcome in both, completed or
 -- stopped. It is stated once over what an instruction asks of memory, and knows no instruction.
-use Rattle.std.proofs.Common.{◌≡◌, ℕ, zero, suc, ◌+◌, ◌-◌, ◌%◌, ◌^◌, ◌<◌, ◌≤◌, Bool, true, false, List, [], ◌∷◌, ◌++◌, length, Option, Some, None, is_some, slice_set, refl, sym, ap, ap₂, ◌∙◌, subst, subst₂, ⊎_elim, arith}
+use Rattle.std.proofs.Common.{◌≡◌, ℕ, zero, suc, Bool, true, false, List, [], ◌∷◌, ◌++◌, length, Option, Some, None, is_some, slice_set, refl, sym, ap, ap₂, ◌∙◌, subst, subst₂, ⊎_elim, arith}
 use Rattle.std.specs.List.{AllByRecursion}
 use Rattle.std.proofs.lemmas.Bool.{both_ways, cases_Bool, true≢false}
-use Rattle.mv_base.specs.Memory.{Cell, Memory, is_mapped, is_writable, is_executable, address_after, distance, first_failing, read_fault, write_fault, bytes_at, put}
+use Rattle.mv_base.specs.Memory.{Memory, is_mapped, is_writable, is_executable, address_after, distance, read_fault, write_fault, bytes_at, put}
 use Rattle.mv_base.specs.Effects.{Effect, Answer, Ret, IsEffect, IsAnswer, Applied, AllApplied, RefusedAt, apply_all}
 use Rattle.mv_base.specs.Effects as effects
 use Rattle.x86_insn.specs.declared.insn.Insn.{Insn}
 use Rattle.x86_insn.specs.declared.insn.Flow.{Flow}
 use Rattle.x86_insn.specs.declared.insn.Flow.TheVariants as flow
-use Rattle.x86_insn.specs.State.{Core, State, Kind, ReadFault, WriteFault, Stop, Trap, Outside, Outcome, Next, Stopped}
+use Rattle.x86_insn.specs.State.{Core, State, Kind, ReadFault, WriteFault, Trap, Outside, Outcome, Next, Stopped}
 use Rattle.x86_insn.specs.Round.{Ask, Reads, Halts, Ends, round, limit}
-use Rattle.x86_insn.specs.Step.{Turn, Ended, Halted, unless_fault, written, answered, asks, turn, Rounds, Completed, Broken, after_turn, rounds, after_rounds, call_of, refused, after_effects, system, executed}
+use Rattle.x86_insn.specs.Step.{Turn, Ended, Halted, unless_fault, answered, asks, turn, Rounds, Completed, Broken, after_turn, rounds, after_rounds, call_of, refused, after_effects, system, executed}
 use Rattle.elf32_read.specs.Load.{load}
 use Rattle.mv_rewrite.specs.Frame.{Frame, is_added}
 use Rattle.mv_rewrite.specs.Relocated.{IsRelocated}

@@ -5,7 +5,7 @@ use Rattle.std.proofs.lemmas.Bool.{cases_lt}
 use Rattle.mv_base.specs.Memory.{exec_bytes}
 use Rattle.x86_insn.specs.declared.insn.Insn.{Insn}
 use Rattle.x86_insn.specs.Spelling.{or_else, with_len, spelled, first_spelled, decoded}
-use Rattle.x86_insn.specs.Step.{Fetched, Absent, Found, Unknown, found, fetched, fetch_in}
+use Rattle.x86_insn.specs.Step.{Fetched, Absent, Found, Unknown, fetched, fetch_in}
 
 -- of the fronts of length k, k + 1, .. (n of them) that of length m is the first spelling
 record IsFirst (k n : ℕ) (s : List ℕ) (i : Insn) (m : ℕ) : Type 0 where

@@ -1,16 +1,16 @@
 -- The effects of an answer do the same to both memories.
-use Rattle.std.proofs.Common.{◌≡◌, ℕ, zero, suc, ◌+◌, ◌-◌, ◌%◌, ◌^◌, ◌<◌, ◌≤◌, Bool, true, false, not, ◌&&◌, ◌||◌, List, [], ◌∷◌, length, Option, Some, None, is_some, option_map, slice_index, if◌then◌else◌, nat_lt, nat_le, refl, sym, ap, ap₂, ◌∙◌, subst, subst₂, ⊎_elim, arith}
+use Rattle.std.proofs.Common.{◌≡◌, ℕ, ◌+◌, ◌-◌, ◌<◌, ◌≤◌, Bool, true, false, not, ◌||◌, List, [], ◌∷◌, length, Option, Some, None, is_some, slice_index, if◌then◌else◌, nat_lt, nat_le, refl, sym, ap, ap₂, ◌∙◌, subst₂, ⊎_elim, arith}
 use Rattle.std.specs.List.{AllByRecursion}
-use Rattle.std.proofs.lemmas.Bool.{both_ways, and_parts, and_from, or_parts, ltb-true, leb-true, lt-ltb, le-leb, cond-true, cond-false, cases_Bool, false≢true}
+use Rattle.std.proofs.lemmas.Bool.{both_ways, and_parts, and_from, ltb-true, leb-true, lt-ltb, le-leb, cond-false, cases_Bool}
 use Rattle.std.proofs.lemmas.Option.{none-some, same_Some}
-use Rattle.mv_base.specs.Memory.{Cell, Memory, is_mapped, is_writable, is_executable, address_after, within, distance, first_failing, put}
-use Rattle.mv_base.specs.Effects.{Mode, Read, Write, Exec, Effect, WriteAt, MapAt, UnmapAt, effect_lo, effect_len, touches, IsEffect, is_write_mode, is_exec_mode, makes_code, applied, Refusal, Executable, first_touched, unmapped, unwritable, refused_access, refusal_of, Applied, AllApplied, RefusedAt, apply_next, apply_all}
+use Rattle.mv_base.specs.Memory.{Cell, Memory, is_mapped, is_writable, is_executable, within, distance, put}
+use Rattle.mv_base.specs.Effects.{Mode, Read, Write, Exec, Effect, WriteAt, MapAt, UnmapAt, effect_lo, effect_len, IsEffect, is_write_mode, is_exec_mode, makes_code, applied, Refusal, Executable, first_touched, unmapped, unwritable, refused_access, refusal_of, Applied, AllApplied, RefusedAt, apply_next, apply_all}
 use Rattle.elf32_read.specs.Load.{load}
-use Rattle.mv_rewrite.specs.Frame.{Frame, is_added, is_private}
+use Rattle.mv_rewrite.specs.Frame.{Frame, is_added}
 use Rattle.mv_rewrite.specs.Relocated.{IsRelocated}
-use Rattle.mv_rewrite.specs.Simulation.{IsClearEffect, shown, marks, exec_cell}
-use Rattle.mv_rewrite.proofs.Cells.{may_write, may_execute, shown_mapped, shown_writable, exec_alike, first_same}
-use Rattle.mv_rewrite.proofs.Likeness.{Alike, IsClearChange, changed_alike, IsClearWrite, put_alike, added_low}
+use Rattle.mv_rewrite.specs.Simulation.{IsClearEffect, shown}
+use Rattle.mv_rewrite.proofs.Cells.{may_execute, shown_mapped, shown_writable, exec_alike, first_same}
+use Rattle.mv_rewrite.proofs.Likeness.{Alike, IsClearChange, changed_alike, IsClearWrite, put_alike}
 
 -- a cell after a range is made anew, or taken away
 abbrev renewed : Bool → Option Cell → Option Cell → Option Cell

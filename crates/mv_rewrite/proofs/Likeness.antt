@@ -1,13 +1,12 @@
 -- Likeness of a memory of the input's run and one of the output's, and the changes that keep it.
-use Rattle.std.proofs.Common.{◌≡◌, ℕ, zero, suc, ◌+◌, ◌-◌, ◌%◌, ◌^◌, ◌<◌, ◌≤◌, Bool, true, false, not, ◌&&◌, List, [], ◌∷◌, length, Option, Some, None, is_some, option_map, slice_index, if◌then◌else◌, nat_lt, nat_le, refl, sym, ap, ◌∙◌, subst, subst₂, ⊎_elim, arith}
-use Rattle.std.proofs.lemmas.Bool.{both_ways, and_parts, and_from, ltb-true, leb-true, lt-ltb, le-leb, cond-true, cond-false, cases_Bool}
-use Rattle.mv_base.specs.Memory.{Cell, Memory, is_mapped, is_writable, is_executable, address_after, within, distance, with_byte, put}
-use Rattle.mv_base.specs.Effects.{Mode, Read, Write, Exec, Effect, WriteAt, MapAt, UnmapAt, touches, IsEffect, is_write_mode, is_exec_mode, makes_code, applied}
+use Rattle.std.proofs.Common.{◌≡◌, ℕ, ◌+◌, ◌^◌, ◌<◌, Bool, true, false, List, length, Option, Some, None, is_some, option_map, slice_index, if◌then◌else◌, nat_lt, nat_le, refl, sym, ap, ◌∙◌, subst₂, ⊎_elim, arith}
+use Rattle.std.proofs.lemmas.Bool.{both_ways, and_parts, ltb-true, cond-false, cases_Bool}
+use Rattle.mv_base.specs.Memory.{Cell, Memory, is_mapped, is_executable, distance, with_byte, put}
 use Rattle.elf32_read.specs.Load.{load}
 use Rattle.mv_rewrite.specs.Frame.{Frame, is_added, is_private}
 use Rattle.mv_rewrite.specs.Relocated.{IsRelocated}
-use Rattle.mv_rewrite.specs.Simulation.{IsClearEffect, shown, marks, exec_cell}
-use Rattle.mv_rewrite.proofs.Cells.{may_write, may_execute, exec_cell_none, exec_alike, exec_same, exec_mapped}
+use Rattle.mv_rewrite.specs.Simulation.{shown, marks, exec_cell}
+use Rattle.mv_rewrite.proofs.Cells.{may_execute, exec_cell_none, exec_alike, exec_mapped}
 
 -- memories of both runs: outside the added range they show the same; in it, the output's is its file's but for the
 -- private area's bytes; the input's code is its file's, and its cells lie below 2^32

@@ -1,9 +1,8 @@
 -- A near jump: what its bytes spell, and where it goes.
-use Rattle.std.proofs.Common.{◌≡◌, ℕ, ◌+◌, ◌-◌, ◌%◌, ◌^◌, ◌<◌, ◌≤◌, List, [], ◌∷◌, length, take, Option, Some, None, slice_index, refl, sym, ap, ◌∙◌, subst, arith, mod-lt, add-zero}
+use Rattle.std.proofs.Common.{◌≡◌, ℕ, ◌+◌, ◌%◌, ◌^◌, ◌<◌, [], ◌∷◌, length, take, Option, Some, slice_index, refl, ap, ◌∙◌, subst, arith, add-zero}
 use Rattle.byteorder.specs.Numbers.{little_number-reads_back}
 use Rattle.mv_base.specs.Bytes.{number, word}
 use Rattle.mv_base.specs.Memory.{address_after, distance, exec_bytes}
-use Rattle.x86_insn.specs.declared.insn.Insn.{Insn}
 use Rattle.x86_insn.specs.declared.insn.Insn.TheVariants.{Jump}
 use Rattle.x86_insn.specs.Spelling.{spelled, first_spelled, decoded}
 use Rattle.x86_insn.specs.Step.{Found, fetch_in}

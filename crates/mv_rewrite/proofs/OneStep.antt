@@ -1,9 +1,9 @@
 -- One step of the input: from agreeing states, the output comes within its bound to a state that agrees again.
-use Rattle.std.proofs.Common.{◌≡◌, ℕ, zero, suc, ◌+◌, ◌-◌, ◌*◌, ◌%◌, ◌^◌, ◌<◌, ◌≤◌, Bool, true, false, List, [], ◌∷◌, ◌++◌, length, Option, Some, None, is_some, slice_index, if◌then◌else◌, refl, sym, ap, ap₂, ◌∙◌, subst, ⊎_elim, arith, length-append}
+use Rattle.std.proofs.Common.{◌≡◌, ℕ, suc, ◌+◌, ◌%◌, ◌^◌, ◌<◌, ◌≤◌, true, false, List, [], ◌∷◌, ◌++◌, length, Option, Some, if◌then◌else◌, refl, sym, ap, ◌∙◌, subst, arith}
 use mathlib.Core.Path.{fun_ext}
 use Rattle.std.specs.List.{AllByRecursion}
 use Rattle.std.specs.Option.{option_and_then}
-use Rattle.mv_base.specs.Memory.{Cell, Memory, exec_byte, exec_byte_of, is_mapped, is_writable, address_after, exec_bytes}
+use Rattle.mv_base.specs.Memory.{exec_byte, exec_byte_of, is_mapped, address_after, exec_bytes}
 use Rattle.mv_base.specs.Effects.{Effect, Answer, Ret, IsAnswer, Applied, AllApplied, RefusedAt, apply_all}
 use Rattle.mv_base.specs.Effects as effects
 use Rattle.x86_insn.specs.declared.insn.Insn.{Insn}
@@ -11,24 +11,24 @@ use Rattle.x86_insn.specs.declared.insn.Insn.TheVariants as insn
 use Rattle.x86_insn.specs.declared.insn.Flow.{Flow}
 use Rattle.x86_insn.specs.declared.insn.Flow.TheVariants as flow
 use Rattle.x86_insn.specs.Flow.{flow_of, falls}
-use Rattle.x86_insn.specs.State.{Core, State, Stop, Outcome, Next, Stopped}
+use Rattle.x86_insn.specs.State.{State, Stop, Outcome, Next, Stopped}
 use Rattle.x86_insn.specs.Round.{limit, hop}
 use Rattle.x86_insn.specs.Step.{Fetched, Absent, Found, Unknown, fetch, fetch_in, Turn, Ended, Halted, turn, Rounds, Completed, Broken, rounds, after_rounds, after_hop, after_effects, system, executed, stepped, step}
 use Rattle.x86_insn.specs.Run.{next_of, next_state, state_after}
 use Rattle.elf32_read.specs.Load.{load}
 use Rattle.mv_rewrite.specs.declared.site.Site.{Site}
-use Rattle.mv_rewrite.specs.Sites.{site_found, site_at, code_in}
-use Rattle.mv_rewrite.specs.Pieces.{successor, target, jump_bytes, piece_of}
-use Rattle.mv_rewrite.specs.Frame.{Frame, frame_map, is_added, is_private}
+use Rattle.mv_rewrite.specs.Sites.{site_found, code_in}
+use Rattle.mv_rewrite.specs.Pieces.{successor, jump_bytes, piece_of}
+use Rattle.mv_rewrite.specs.Frame.{Frame, frame_map}
 use Rattle.mv_rewrite.specs.Relocated.{StandAt, IsRelocated}
-use Rattle.mv_rewrite.specs.Simulation.{effects_of, effects_by_flow, taken_up, IsClearEffect, IsClearOutcome, IsClearStep, exec_cell, Agree, step_bound}
-use Rattle.mv_rewrite.proofs.Decoding.{IsFound, is_found, found_len, found_copied}
+use Rattle.mv_rewrite.specs.Simulation.{effects_of, effects_by_flow, IsClearEffect, IsClearOutcome, IsClearStep, Agree, step_bound}
+use Rattle.mv_rewrite.proofs.Decoding.{is_found, found_len, found_copied}
 use Rattle.mv_rewrite.proofs.Cells.{exec_cell_byte}
 use Rattle.mv_rewrite.proofs.Likeness.{Alike}
 use Rattle.mv_rewrite.proofs.Copied.{StatesAlike, OutcomeAlike, IsCopied, executed_alike}
 use Rattle.mv_rewrite.proofs.NearJump.{jump_len}
 use Rattle.mv_rewrite.proofs.Table.{is_jump, trap_stops, other_stops, is_direct, jump_steps}
-use Rattle.mv_rewrite.proofs.Standing.{IsKept, stand_front, stand_back, stands, fetched_step, stand_low, jump_step}
+use Rattle.mv_rewrite.proofs.Standing.{stand_front, stand_back, stands, fetched_step, stand_low, jump_step}
 
 -- ---- states
 

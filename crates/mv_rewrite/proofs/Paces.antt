@@ -1,23 +1,22 @@
 -- The run of a relocated output follows the run of its input.
-use Rattle.std.proofs.Common.{◌≡◌, ℕ, zero, suc, ◌+◌, ◌*◌, ◌%◌, ◌^◌, ◌<◌, ◌≤◌, Bool, true, false, List, [], ◌∷◌, length, Option, Some, None, is_some, option_map, refl, sym, ap, ap₂, ◌∙◌, subst, arith, add-zero, add-suc}
+use Rattle.std.proofs.Common.{◌≡◌, ℕ, zero, suc, ◌+◌, ◌^◌, ◌<◌, Bool, true, false, List, [], ◌∷◌, Option, Some, None, is_some, refl, sym, ap, ◌∙◌, subst, arith, add-zero, add-suc}
 use Rattle.std.specs.List.{AllByRecursion}
 use Rattle.std.specs.Option.{option_and_then}
 use Rattle.std.proofs.lemmas.Bool.{both_ways}
 use Rattle.std.proofs.lemmas.Option.{none-some, same_Some, option_and_then_some}
-use Rattle.mv_base.specs.Memory.{Cell, Memory, is_mapped, is_executable, first_of, joined}
+use Rattle.mv_base.specs.Memory.{Cell, first_of}
 use Rattle.mv_base.specs.Effects.{Answer, IsAnswer}
-use Rattle.x86_insn.specs.State.{Core, State, Stop, Outcome, Next, Stopped}
+use Rattle.x86_insn.specs.State.{State, Outcome, Next, Stopped}
 use Rattle.x86_insn.specs.Step.{step}
 use Rattle.x86_insn.specs.Run.{next_of, next_state, state_after}
 use Rattle.elf32_read.specs.Load.{load}
-use Rattle.mv_rewrite.specs.Frame.{Frame, frame, frame_map, is_added}
-use Rattle.mv_rewrite.specs.Relocated.{idle_cell, without_exec, IsRelocated}
-use Rattle.mv_rewrite.specs.Simulation.{Start, IsStart, begin, run_state, IsClear, IsClearStep, shown, marks, exec_cell, Agree, executions, BothAre, AgreeAt, newest, IsPace, step_bound, FollowsIn, Follows}
+use Rattle.mv_rewrite.specs.Frame.{Frame, is_added}
+use Rattle.mv_rewrite.specs.Relocated.{without_exec, IsRelocated}
+use Rattle.mv_rewrite.specs.Simulation.{Start, IsStart, begin, run_state, IsClear, shown, marks, exec_cell, Agree, executions, BothAre, AgreeAt, newest, IsPace, step_bound, FollowsIn, Follows}
 use Rattle.mv_rewrite.proofs.Bounded.{load_low}
 use Rattle.mv_rewrite.proofs.Cells.{may_execute, exec_cell_none}
-use Rattle.mv_rewrite.proofs.Likeness.{Alike, added_low}
-use Rattle.mv_rewrite.proofs.Copied.{StatesAlike}
-use Rattle.mv_rewrite.proofs.OneStep.{IsSound, agree_of, Comes, one_more, none_yet, step_comes, step_sound}
+use Rattle.mv_rewrite.proofs.Likeness.{added_low}
+use Rattle.mv_rewrite.proofs.OneStep.{IsSound, agree_of, one_more, none_yet, step_comes, step_sound}
 
 -- ---- runs
 

@@ -1,11 +1,11 @@
 -- What stands in the output's block, and a jump that stands there.
-use Rattle.std.proofs.Common.{◌≡◌, ℕ, zero, suc, ◌+◌, ◌-◌, ◌%◌, ◌^◌, ◌<◌, ◌≤◌, Bool, true, false, List, [], ◌∷◌, ◌++◌, length, Option, Some, None, is_some, slice_index, refl, sym, ap, ap₂, ◌∙◌, subst, ⊎_elim, arith, length-append, get_or-append-add}
+use Rattle.std.proofs.Common.{◌≡◌, ℕ, ◌+◌, ◌%◌, ◌^◌, ◌<◌, true, false, List, ◌++◌, length, Some, slice_index, ap, ◌∙◌, subst, arith, length-append, get_or-append-add}
 use Rattle.std.proofs.lemmas.List.{get_or_append_left}
-use Rattle.mv_base.specs.Memory.{Cell, Memory, exec_byte, exec_byte_of, is_writable, address_after}
+use Rattle.mv_base.specs.Memory.{exec_byte, exec_byte_of, is_writable, address_after}
 use Rattle.x86_insn.specs.declared.insn.Insn.{Insn}
 use Rattle.x86_insn.specs.declared.insn.Insn.TheVariants as insn
-use Rattle.x86_insn.specs.State.{Core, State, Outcome, Next, Stopped}
-use Rattle.x86_insn.specs.Step.{Fetched, Absent, Found, Unknown, fetch, fetch_in, stepped, step}
+use Rattle.x86_insn.specs.State.{State, Next}
+use Rattle.x86_insn.specs.Step.{Found, fetch, fetch_in, stepped, step}
 use Rattle.elf32_read.specs.Load.{load}
 use Rattle.mv_rewrite.specs.Pieces.{jump_bytes}
 use Rattle.mv_rewrite.specs.Frame.{Frame, is_added, is_private}

@@ -1,20 +1,19 @@
 -- One step of the input that is a stop: from agreeing states, the output stops alike.
-use Rattle.std.proofs.Common.{◌≡◌, ℕ, zero, suc, ◌+◌, Bool, true, false, List, [], ◌∷◌, ◌++◌, length, take, drop, nat_eq, Option, Some, None, if◌then◌else◌, nat_lt, nat_le, ◌==◌, refl, sym, ap, ap₂, ◌∙◌, subst, ⊎_elim, arith}
+use Rattle.std.proofs.Common.{◌≡◌, ℕ, Bool, true, false, List, [], ◌∷◌, length, take, drop, nat_eq, Option, Some, None, if◌then◌else◌, nat_le, refl, sym, ap, ◌∙◌, subst, ⊎_elim, arith}
 use Rattle.std.specs.List.{AllByRecursion, starts_with}
-use Rattle.std.proofs.lemmas.Bool.{both_ways, cases_Bool, cond-false}
-use Rattle.std.proofs.lemmas.Option.{none-some, same_Some, cond_some}
-use Rattle.mv_base.specs.Memory.{Cell, Memory, exec_byte, exec_byte_of, exec_bytes, address_after}
+use Rattle.std.proofs.lemmas.Bool.{cases_Bool, cond-false}
+use Rattle.std.proofs.lemmas.Option.{none-some, cond_some}
+use Rattle.mv_base.specs.Memory.{Cell, exec_byte, exec_byte_of, exec_bytes, address_after}
 use Rattle.x86_insn.specs.declared.insn.Insn.{Insn}
-use Rattle.x86_insn.specs.declared.insn.Insn.TheVariants as insn
 use Rattle.x86_insn.specs.declared.insn.Flow.{Flow}
 use Rattle.x86_insn.specs.declared.insn.Flow.TheVariants as flow
 use Rattle.x86_insn.specs.Flow.{flow_of}
 use Rattle.x86_insn.specs.Spelling.{Kind, MovImm, NopKind, JumpNear, SystemCall, Halt, Row, rows, meaning, decoded, spelled_from, spelled_by_row, or_else, spelled_by, spelled}
-use Rattle.x86_insn.specs.State.{State, Stop, FetchFault, Trap, Outcome, Next, Stopped}
+use Rattle.x86_insn.specs.State.{State, Stop, FetchFault, Trap, Outcome, Stopped}
 use Rattle.x86_insn.specs.Step.{Fetched, Absent, Found, Unknown, fetch, fetch_in, fetched, executed, stepped, step}
 use Rattle.mv_rewrite.specs.Sites.{site_found, site_at, code_in}
 use Rattle.mv_rewrite.specs.Frame.{Frame, frame_map, is_added}
-use Rattle.mv_rewrite.specs.Relocated.{StandAt, IsRelocated}
+use Rattle.mv_rewrite.specs.Relocated.{IsRelocated}
 use Rattle.mv_rewrite.specs.Simulation.{effects_of, effects_by_flow, IsClearEffect, IsClearStop, IsClearOutcome, IsClearStep, Agree}
 use Rattle.mv_rewrite.proofs.Cells.{may_execute}
 use Rattle.mv_rewrite.proofs.Likeness.{Alike}

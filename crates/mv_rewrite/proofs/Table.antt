@@ -1,5 +1,5 @@
 -- What the step's table says of each flow: a trap never completes, and of the transfers a direct jump alone has a row.
-use Rattle.std.proofs.Common.{◌≡◌, ℕ, suc, None, ◌+◌, ◌%◌, ◌^◌, ◌<◌, Bool, true, false, List, [], ◌∷◌, refl, sym, ap, ◌∙◌, subst}
+use Rattle.std.proofs.Common.{◌≡◌, ℕ, None, ◌+◌, ◌%◌, ◌^◌, Bool, true, false, List, [], ◌∷◌, refl, sym, ap, ◌∙◌}
 use Rattle.std.proofs.lemmas.Bool.{true≢false}
 use Rattle.mv_base.specs.Memory.{Memory}
 use Rattle.x86_insn.specs.declared.insn.Insn.{Insn}
@@ -7,9 +7,9 @@ use Rattle.x86_insn.specs.declared.insn.Insn.TheVariants as insn
 use Rattle.x86_insn.specs.declared.insn.Flow.{Flow}
 use Rattle.x86_insn.specs.declared.insn.Flow.TheVariants as flow
 use Rattle.x86_insn.specs.Flow.{flow_of}
-use Rattle.x86_insn.specs.State.{Core, State, Stop, Trap, Outside, Outcome, Next, Stopped}
-use Rattle.x86_insn.specs.Round.{Ask, Reads, Halts, Ends, round, limit, hop}
-use Rattle.x86_insn.specs.Step.{Turn, Ended, Halted, answered, asks, turn, Rounds, Completed, Broken, after_turn, rounds, after_rounds, after_hop}
+use Rattle.x86_insn.specs.State.{Core, State, Stop, Outside, Next, Stopped}
+use Rattle.x86_insn.specs.Round.{Ask, Halts, Ends, round, limit, hop}
+use Rattle.x86_insn.specs.Step.{Ended, Halted, answered, asks, turn, after_turn, rounds, after_rounds, after_hop}
 
 abbrev is_trap : Flow → Bool
 is_trap flow.Trap = true
