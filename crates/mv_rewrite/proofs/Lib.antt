@@ -8,6 +8,8 @@ pub mod EffectsAlike
 pub mod Copied
 pub mod Table
 pub mod Standing
+pub mod Sound
+pub mod AtSite
 pub mod OneStep
 pub mod Stops
 pub mod Paces

@@ -16,7 +16,8 @@ use Rattle.mv_rewrite.specs.Simulation.{Start, IsStart, begin, run_state, IsClea
 use Rattle.mv_rewrite.proofs.Bounded.{load_low}
 use Rattle.mv_rewrite.proofs.Cells.{may_execute, exec_cell_none}
 use Rattle.mv_rewrite.proofs.Likeness.{added_low}
-use Rattle.mv_rewrite.proofs.OneStep.{IsSound, agree_of, one_more, none_yet, step_comes, step_sound}
+use Rattle.mv_rewrite.proofs.Sound.{IsSound, agree_of}
+use Rattle.mv_rewrite.proofs.OneStep.{one_more, none_yet, step_comes, step_sound}
 
 -- ---- runs
 

@@ -17,10 +17,12 @@ use Rattle.mv_rewrite.specs.Relocated.{IsRelocated}
 use Rattle.mv_rewrite.specs.Simulation.{effects_of, effects_by_flow, IsClearEffect, IsClearStop, IsClearOutcome, IsClearStep, Agree}
 use Rattle.mv_rewrite.proofs.Cells.{may_execute}
 use Rattle.mv_rewrite.proofs.Likeness.{Alike}
-use Rattle.mv_rewrite.proofs.Decoding.{is_found, decoded_spelled}
-use Rattle.mv_rewrite.proofs.Copied.{StatesAlike, OutcomeAlike}
+use Rattle.mv_rewrite.proofs.Decoding.{decoded_spelled}
+use Rattle.mv_rewrite.proofs.Copied.{StatesAlike}
 use Rattle.mv_rewrite.proofs.Table.{is_direct, jump_steps}
-use Rattle.mv_rewrite.proofs.OneStep.{IsSound, alike_of, stopped_next, code_same, site_code, slot_stands, copied_alike}
+use Rattle.mv_rewrite.proofs.Sound.{IsSound, alike_of}
+use Rattle.mv_rewrite.proofs.AtSite.{AtSite, MeetsAt, code_same, site_found_in, slot_stands, copied_alike}
+use Rattle.mv_rewrite.proofs.OneStep.{stopped_next}
 
 -- ---- the flows that have a row
 
@@ -100,7 +102,7 @@ unknown_there e = grind arith
 -- how the output stops where the input's step is a stop: alike at a site, else at once by a fetch fault there
 abbrev pub StopsBy : List ℕ → List ℕ → Frame → State → State → Outcome → Fetched → Type 0
 StopsBy b x f o t r Absent = step t ≡ Stopped (Trap FetchFault o.eip) t
-StopsBy b x f o t r (Found i n) = OutcomeAlike (Alike b x f) (address_after o.eip n) (address_after (frame_map f o.eip) n) r (step t)
+StopsBy b x f o t r (Found i n) = MeetsAt b x f o n r (step t)
 StopsBy b x f o t r Unknown = step t ≡ Stopped (Trap FetchFault o.eip) t
 
 module _ (b x : List ℕ) (f : Frame) (rel : IsRelocated b x f) where
@@ -123,25 +125,27 @@ module _ (b x : List ℕ) (f : Frame) (rel : IsRelocated b x f) where
       let d = is_direct i k in
       stopped_next why o' _ (sym (subst (λ j. executed o j next flow.Jump ≡ Stopped why o') d.1 e) ∙ jump_steps o next d.0)
 
-  flow_stops : (o o' t : State) (i : Insn) (n : ℕ) (why : Stop) (fl : Flow) → HasRow fl → IsSound o → StatesAlike (Alike b x f) o t → t.eip ≡ frame_map f o.eip → fetch o.memory o.eip ≡ Found i n → flow_of i ≡ fl → AllByRecursion (IsClearEffect b f) (effects_by_flow fl o.answers) → IsClearStop f why → executed o i (address_after o.eip n) fl ≡ Stopped why o' → OutcomeAlike (Alike b x f) (address_after o.eip n) (address_after (frame_map f o.eip) n) (executed o i (address_after o.eip n) fl) (step t)
-  flow_stops o o' t i n why flow.Plain row sound s place e k h c st = copied_alike b x f rel o t i n flow.Plain _ tt sound s place e k h (slot_stands b x f rel o t i n flow.Plain s e k) (subst (IsClearOutcome f) (sym st) c)
-  flow_stops o o' t i n why flow.System row sound s place e k h c st = copied_alike b x f rel o t i n flow.System _ tt sound s place e k h (slot_stands b x f rel o t i n flow.System s e k) (subst (IsClearOutcome f) (sym st) c)
-  flow_stops o o' t i n why flow.Trap row sound s place e k h c st = copied_alike b x f rel o t i n flow.Trap _ tt sound s place e k h (slot_stands b x f rel o t i n flow.Trap s e k) (subst (IsClearOutcome f) (sym st) c)
-  flow_stops o o' t i n why flow.Jump row sound s place e k h c st = jump_goes_on o o' i (address_after o.eip n) why k st
-  flow_stops o o' t i n why flow.Branch row sound s place e k h c st = absurd row
-  flow_stops o o' t i n why flow.Count row sound s place e k h c st = absurd row
-  flow_stops o o' t i n why flow.Call row sound s place e k h c st = absurd row
-  flow_stops o o' t i n why flow.JumpVia row sound s place e k h c st = absurd row
-  flow_stops o o' t i n why flow.CallVia row sound s place e k h c st = absurd row
-  flow_stops o o' t i n why flow.Return row sound s place e k h c st = absurd row
+  flow_stops : (o o' t : State) (i : Insn) (n : ℕ) (why : Stop) (fl : Flow) → HasRow fl → AtSite b x f o t i n → flow_of i ≡ fl → AllByRecursion (IsClearEffect b f) (effects_by_flow fl o.answers) → IsClearStop f why → executed o i (address_after o.eip n) fl ≡ Stopped why o' → MeetsAt b x f o n (executed o i (address_after o.eip n) fl) (step t)
+  flow_stops o o' t i n why flow.Plain row s k h c st = copied_alike b x f rel o t i n flow.Plain _ tt s k h (slot_stands b x f rel o t i n flow.Plain s k) (subst (IsClearOutcome f) (sym st) c)
+  flow_stops o o' t i n why flow.System row s k h c st = copied_alike b x f rel o t i n flow.System _ tt s k h (slot_stands b x f rel o t i n flow.System s k) (subst (IsClearOutcome f) (sym st) c)
+  flow_stops o o' t i n why flow.Trap row s k h c st = copied_alike b x f rel o t i n flow.Trap _ tt s k h (slot_stands b x f rel o t i n flow.Trap s k) (subst (IsClearOutcome f) (sym st) c)
+  flow_stops o o' t i n why flow.Jump row s k h c st = jump_goes_on o o' i (address_after o.eip n) why k st
+  flow_stops o o' t i n why flow.Branch row s k h c st = absurd row
+  flow_stops o o' t i n why flow.Count row s k h c st = absurd row
+  flow_stops o o' t i n why flow.Call row s k h c st = absurd row
+  flow_stops o o' t i n why flow.JumpVia row s k h c st = absurd row
+  flow_stops o o' t i n why flow.CallVia row s k h c st = absurd row
+  flow_stops o o' t i n why flow.Return row s k h c st = absurd row
 
   -- a site's instruction has a row
-  site_row : (o t : State) (i : Insn) (n : ℕ) → StatesAlike (Alike b x f) o t → fetch o.memory o.eip ≡ Found i n → HasRow (flow_of i)
-  site_row o t i n s e = spelled_row (take n (exec_bytes (code_in b) o.eip 15)) i (decoded_spelled _ i n (is_found (code_in b) o.eip i n (site_code b x f rel o t i n s e)).reads)
+  site_row : (o t : State) (i : Insn) (n : ℕ) → AtSite b x f o t i n → HasRow (flow_of i)
+  site_row o t i n s = spelled_row (take n (exec_bytes (code_in b) o.eip 15)) i (decoded_spelled _ i n (site_found_in b x f rel o t i n s).reads)
 
   fetched_stops : (o o' t : State) (why : Stop) (r : Fetched) → IsSound o → StatesAlike (Alike b x f) o t → t.eip ≡ frame_map f o.eip → fetch o.memory o.eip ≡ r → AllByRecursion (IsClearEffect b f) (effects_of r o.answers) → IsClearOutcome f (stepped o r) → stepped o r ≡ Stopped why o' → StopsBy b x f o t (stepped o r) r
   fetched_stops o o' t why Absent sound s place e h c st = miss_stops o t Absent tt s place e c
-  fetched_stops o o' t why (Found i n) sound s place e h c st = flow_stops o o' t i n why (flow_of i) (site_row o t i n s e) sound s place e refl h (subst (IsClearOutcome f) st c) st
+  fetched_stops o o' t why (Found i n) sound s place e h c st =
+      let at : AtSite b x f o t i n = record { sound = sound; alike = s; place = place; found = e } in
+      flow_stops o o' t i n why (flow_of i) (site_row o t i n at) at refl h (subst (IsClearOutcome f) st c) st
   fetched_stops o o' t why Unknown sound s place e h c st = miss_stops o t Unknown tt s place e tt
 
   -- from agreeing states and a step of the input that is a stop and clear, the output stops so at its next step
