@@ -1,0 +1,15 @@
+-- why the run of a relocated output follows the run of its input, lowest first
+pub mod Decoding
+pub mod NearJump
+pub mod Cells
+pub mod Bounded
+pub mod Likeness
+pub mod EffectsAlike
+pub mod Copied
+pub mod Table
+pub mod Standing
+pub mod Sound
+pub mod AtSite
+pub mod OneStep
+pub mod Stops
+pub mod Paces
