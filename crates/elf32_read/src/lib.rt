@@ -6,12 +6,9 @@
 #![tactic(auto)]
 
 pub mod fault;
-pub mod field;
-pub mod header;
 pub mod image;
 pub mod reader;
 pub mod run;
-pub mod thin;
 
 pub use fault::ImageFault;
 pub use image::{Headers, Image, Phdr, Segment, Segments};

@@ -1,2 +1,0 @@
--- lemmas of this crate's proofs
-pub mod Flags
