@@ -5,3 +5,4 @@ pub mod Standing
 pub mod Written
 pub mod Based
 pub mod Headers
+pub mod Loaded
