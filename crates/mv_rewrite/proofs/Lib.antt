@@ -6,3 +6,6 @@ pub mod Written
 pub mod Based
 pub mod Headers
 pub mod Loaded
+pub mod Cells
+pub mod Framed
+pub mod Relocation

@@ -299,7 +299,7 @@ module _ (b : List ℕ) (base : ℕ) (thin : is_thin b ≡ true) (bytes : AreByt
       | inr le ↦ le
     ]
 
-  ascends_first : KeptFirst b (plan_at b base) (header_at b 52) → Ascends (length (file_of b (plan_at b base))) 0 (kept b ∷ code_header b base ∷ table_header b base ∷ private_header b base ∷ [])
+  pub ascends_first : KeptFirst b (plan_at b base) (header_at b 52) → Ascends (length (file_of b (plan_at b base))) 0 (kept b ∷ code_header b base ∷ table_header b base ∷ private_header b base ∷ [])
   ascends_first k =
       let low = below k in
       (placed.page, omega arith, fine_kept 0 placed.page (omega arith) (omega (arith, low, placed.at)),
@@ -307,7 +307,7 @@ module _ (b : List ℕ) (base : ℕ) (thin : is_thin b ≡ true) (bytes : AreByt
           (placed.page + (code_len b + 4095) / 4096 + (table_len b + 4095) / 4096, omega arith, fine_table,
             (placed.page + (code_len b + 4095) / 4096 + (table_len b + 4095) / 4096 + 1, omega arith, fine_private, tt))))
 
-  ascends_last : KeptLast b (plan_at b base) (header_at b 52) → Ascends (length (file_of b (plan_at b base))) 0 (code_header b base ∷ table_header b base ∷ private_header b base ∷ kept b ∷ [])
+  pub ascends_last : KeptLast b (plan_at b base) (header_at b 52) → Ascends (length (file_of b (plan_at b base))) 0 (code_header b base ∷ table_header b base ∷ private_header b base ∷ kept b ∷ [])
   ascends_last k =
       let high = above k in
       (placed.page + (code_len b + 4095) / 4096, omega arith, fine_code 0 (omega arith),
