@@ -1,3 +1,15 @@
+-- what stands where in an output, and how it loads, lowest first
+pub mod Entries
+pub mod Slots
+pub mod Placed
+pub mod Parts
+pub mod Written
+pub mod Based
+pub mod Headers
+pub mod Loaded
+pub mod OutputCells
+pub mod Framed
+pub mod Relocation
 -- why the run of a relocated output follows the run of its input, lowest first
 pub mod Decoding
 pub mod NearJump
