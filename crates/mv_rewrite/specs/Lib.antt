@@ -7,4 +7,5 @@ pub mod Output
 pub mod Frame
 pub mod Relocated
 pub mod Simulation
+pub mod Stopping
 pub mod Rewriting
