@@ -10,6 +10,8 @@ pub mod Loaded
 pub mod OutputCells
 pub mod Framed
 pub mod Relocation
+pub mod Fine
+pub mod NewHeaders
 -- why the run of a relocated output follows the run of its input, lowest first
 pub mod Decoding
 pub mod NearJump
