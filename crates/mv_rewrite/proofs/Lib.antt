@@ -12,6 +12,7 @@ pub mod Framed
 pub mod Relocation
 pub mod Fine
 pub mod NewHeaders
+pub mod NewCells
 -- why the run of a relocated output follows the run of its input, lowest first
 pub mod Decoding
 pub mod NearJump
