@@ -13,6 +13,7 @@ pub mod Relocation
 pub mod Fine
 pub mod NewHeaders
 pub mod NewCells
+pub mod Planned
 -- why the run of a relocated output follows the run of its input, lowest first
 pub mod Decoding
 pub mod NearJump
