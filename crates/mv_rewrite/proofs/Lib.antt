@@ -14,6 +14,8 @@ pub mod Fine
 pub mod NewHeaders
 pub mod NewCells
 pub mod Planned
+pub mod Recorded
+pub mod Relocating
 -- why the run of a relocated output follows the run of its input, lowest first
 pub mod Decoding
 pub mod NearJump

@@ -91,7 +91,7 @@ pub cell_outside : (x : List ℕ) (h : Phdr) (a : ℕ) → within h.vaddr h.mems
 unfolding header_cell
 cell_outside x h a w = ap (λ t. cond t (Some (inner_cell x h a)) None) (and_right (is_load h) (within h.vaddr h.memsz a) w)
 
-cell_unloaded : (x : List ℕ) (h : Phdr) (a : ℕ) → is_load h ≡ false → header_cell x h a ≡ None
+pub cell_unloaded : (x : List ℕ) (h : Phdr) (a : ℕ) → is_load h ≡ false → header_cell x h a ≡ None
 unfolding header_cell
 cell_unloaded x h a l = ap (λ t. cond t (Some (inner_cell x h a)) None) (and_left (is_load h) (within h.vaddr h.memsz a) l)
 
