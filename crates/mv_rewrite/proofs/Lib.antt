@@ -25,3 +25,4 @@ pub mod AtSite
 pub mod OneStep
 pub mod Stops
 pub mod Paces
+pub mod Simulating
