@@ -1,23 +1,23 @@
 -- The output of a relocated file stops where its input stops, and shows nothing else on the way.
-use Rattle.std.proofs.Common.{◌≡◌, ℕ, suc, inl, inr, ◌+◌, ◌<◌, ◌≤◌, true, List, Option, Some, None, is_some, refl, sym, ap, ◌∙◌, subst, subst₂, arith}
+use Rattle.std.proofs.Common.{◌≡◌, ℕ, inl, inr, ◌+◌, List, Option, Some, is_some, refl, sym, ap, ◌∙◌, subst, arith}
 use Rattle.std.specs.List.{AllByRecursion}
 use Rattle.std.proofs.lemmas.Option.{same_Some}
 use Rattle.mv_base.specs.Effects.{Answer, IsAnswer}
 use Rattle.x86_insn.specs.State.{State, Stop, FetchFault, Trap, Outside, Outcome, Next, Stopped}
-use Rattle.x86_insn.specs.Step.{Fetched, Absent, Found, Unknown, fetch, fetch_in, stepped, step}
+use Rattle.x86_insn.specs.Step.{Fetched, Absent, Found, Unknown, fetch, stepped, step}
 use Rattle.mv_rewrite.specs.declared.site.Site.{Site}
 use Rattle.mv_rewrite.specs.Sites.{site_found, site_at, code_in}
 use Rattle.mv_rewrite.specs.Frame.{Frame, frame}
 use Rattle.mv_rewrite.specs.Relocated.{IsRelocated}
-use Rattle.mv_rewrite.specs.Simulation.{Start, IsStart, begin, run_state, IsClear, IsClearStep, Agree, executions, newest}
-use Rattle.mv_rewrite.specs.Stopping.{ShowsSame, ShowsAt, QuietIn, StopsSame, StopsAs, StopsAfter, StopsIn, Simulates}
+use Rattle.mv_rewrite.specs.Simulation.{Start, IsStart, run_state, IsClear, IsClearStep, Agree, newest}
+use Rattle.mv_rewrite.specs.Stopping.{ShowsSame, QuietIn, StopsSame, StopsAs, StopsIn, Simulates}
 use Rattle.mv_rewrite.proofs.Likeness.{Alike}
-use Rattle.mv_rewrite.proofs.Copied.{StatesAlike, OutcomeAlike}
+use Rattle.mv_rewrite.proofs.Copied.{StatesAlike}
 use Rattle.mv_rewrite.proofs.Sound.{IsSound, alike_of}
 use Rattle.mv_rewrite.proofs.AtSite.{MeetsAt, code_same}
 use Rattle.mv_rewrite.proofs.OneStep.{shows_of}
 use Rattle.mv_rewrite.proofs.Stops.{StopsBy, step_stops}
-use Rattle.mv_rewrite.proofs.Paces.{both_from, Followed, agreeing, followed, follows}
+use Rattle.mv_rewrite.proofs.Paces.{both_from, agreeing, followed, follows}
 
 -- ---- one stop
 
