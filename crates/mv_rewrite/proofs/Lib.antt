@@ -31,3 +31,4 @@ pub mod AtSite
 pub mod OneStep
 pub mod Stops
 pub mod Paces
+pub mod Simulating

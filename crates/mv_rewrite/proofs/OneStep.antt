@@ -14,9 +14,10 @@ use Rattle.x86_insn.specs.Round.{hop}
 use Rattle.x86_insn.specs.Step.{Fetched, Absent, Found, Unknown, fetch, turn, after_hop, executed, stepped, step}
 use Rattle.x86_insn.specs.Run.{next_of, next_state, state_after}
 use Rattle.mv_rewrite.specs.Pieces.{jump_bytes}
-use Rattle.mv_rewrite.specs.Frame.{is_added, Frame, frame_map}
+use Rattle.mv_rewrite.specs.Frame.{Frame, frame_map}
 use Rattle.mv_rewrite.specs.Relocated.{StandAt, IsRelocated}
-use Rattle.mv_rewrite.specs.Simulation.{effects_of, effects_by_flow, IsClearEffect, IsClearOutcome, IsClearStep, shown, Agree, step_bound}
+use Rattle.mv_rewrite.specs.Simulation.{effects_of, effects_by_flow, IsClearEffect, IsClearOutcome, IsClearStep, Agree, step_bound}
+use Rattle.mv_rewrite.specs.Stopping.{ShowsSame}
 use Rattle.mv_rewrite.proofs.Likeness.{Alike}
 use Rattle.mv_rewrite.proofs.Copied.{StatesAlike, IsCopied}
 use Rattle.mv_rewrite.proofs.NearJump.{jump_len}
@@ -27,14 +28,8 @@ use Rattle.mv_rewrite.proofs.AtSite.{copy_bytes, AtSite, MeetsAt, copy_len, slot
 
 -- ---- some steps
 
--- a state of the output shows what one of the input shows: the calls made, the answers left, and outside the added range
--- the addresses, bytes and write marks
-pub record Shows (f : Frame) (o t : State) : Type 0 where
-  pub calls : t.calls ≡ o.calls
-  pub answers : t.answers ≡ o.answers
-  pub outside : (a : ℕ) → is_added f a ≡ false → shown (t.memory a) ≡ shown (o.memory a)
-
-pub shows_of : (b x : List ℕ) (f : Frame) (o t : State) → StatesAlike (Alike b x f) o t → Shows f o t
+-- like states show the same
+pub shows_of : (b x : List ℕ) (f : Frame) (o t : State) → StatesAlike (Alike b x f) o t → ShowsSame f o t
 shows_of b x f o t s = record { calls = s.calls; answers = s.answers; outside = s.memory.outside }
 
 -- from a step of the input to its next state: within its bound the output comes to a state like that, at the place where
@@ -47,7 +42,7 @@ pub record Comes (b x : List ℕ) (f : Frame) (o o' t : State) : Type 0 where
   pub comes : state_after count t ≡ Some state
   pub alike : StatesAlike (Alike b x f) o' state
   pub place : state.eip ≡ frame_map f o'.eip
-  pub quiet : (m : ℕ) (u : State) → m ≤ count → state_after m t ≡ Some u → Shows f o u ⊎ Shows f o' u
+  pub quiet : (m : ℕ) (u : State) → m ≤ count → state_after m t ≡ Some u → ShowsSame f o u ⊎ ShowsSame f o' u
 
 pub one_more : (k : ℕ) (t u v : State) → state_after k t ≡ Some u → step u ≡ Next v → state_after (suc k) t ≡ Some v
 unfolding state_after
@@ -111,7 +106,7 @@ module _ (b x : List ℕ) (f : Frame) (rel : IsRelocated b x f) where
         comes = one_more 1 t u (record u { eip = to }) (one_more 0 t t u (none_yet t) st) jumped;
         alike = record { core = a.0.core; calls = a.0.calls; answers = a.0.answers; memory = a.0.memory };
         place = ap (frame_map f) (sym a.1);
-        quiet = by_two (λ v. Shows f o v ⊎ Shows f o' v) t u (record u { eip = to }) st jumped (inl (shows_of b x f o t s.alike)) (inr (shows_of b x f o' u a.0)) (inr (record { calls = a.0.calls; answers = a.0.answers; outside = a.0.memory.outside }));
+        quiet = by_two (λ v. ShowsSame f o v ⊎ ShowsSame f o' v) t u (record u { eip = to }) st jumped (inl (shows_of b x f o t s.alike)) (inr (shows_of b x f o' u a.0)) (inr (record { calls = a.0.calls; answers = a.0.answers; outside = a.0.memory.outside }));
       }
 
   copied_comes : (o o' t : State) (i : Insn) (n : ℕ) (fl : Flow) → IsCopied fl → AtSite b x f o t i n → flow_of i ≡ fl → AllByRecursion (IsClearEffect b f) (effects_by_flow fl o.answers) → StandAt x f (frame_map f o.eip) (copy_bytes b o n ++ join_bytes b f o n) → executed o i (address_after o.eip n) fl ≡ Next o' → Comes b x f o o' t
@@ -136,7 +131,7 @@ module _ (b x : List ℕ) (f : Frame) (rel : IsRelocated b x f) where
         comes = one_more 0 t t (record t { eip = to }) (none_yet t) jumped;
         alike = record { core = s.alike.core; calls = s.alike.calls; answers = s.alike.answers; memory = s.alike.memory };
         place = refl;
-        quiet = by_one (λ v. Shows f o v ⊎ Shows f (record o { eip = goal }) v) t (record t { eip = to }) jumped (inl (shows_of b x f o t s.alike)) (inr (record { calls = s.alike.calls; answers = s.alike.answers; outside = s.alike.memory.outside }));
+        quiet = by_one (λ v. ShowsSame f o v ⊎ ShowsSame f (record o { eip = goal }) v) t (record t { eip = to }) jumped (inl (shows_of b x f o t s.alike)) (inr (record { calls = s.alike.calls; answers = s.alike.answers; outside = s.alike.memory.outside }));
       } in
       subst (λ u. Comes b x f o u t) (next_parts (record o { eip = goal }) o' (sym (jump_steps o (address_after o.eip n) r) ∙ st)) there
 
