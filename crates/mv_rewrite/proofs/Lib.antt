@@ -4,12 +4,6 @@ pub mod Slots
 pub mod Placed
 pub mod Parts
 pub mod Written
-pub mod Based
-pub mod Headers
-pub mod Loaded
-pub mod OutputCells
-pub mod Framed
-pub mod Relocation
 pub mod Fine
 pub mod NewHeaders
 pub mod NewCells
@@ -32,3 +26,4 @@ pub mod OneStep
 pub mod Stops
 pub mod Paces
 pub mod Simulating
+pub mod Outputs
