@@ -5,9 +5,11 @@
 //! the project grows.
 #![tactic(auto)]
 
+mod decoding;
 pub mod plan;
 pub mod rewriting;
 pub mod site;
+mod sites;
 
 pub use plan::{Plan, RunPlaces};
 pub use rewriting::{FILE_LIMIT, RewriteFault, Rewritten, rewrite};
