@@ -48,6 +48,7 @@ fn site_in(run: &Run, offset: usize) -> Option<Site>
             len,
             insn,
         }),
-        Decoded::Short | Decoded::Unknown => None,
+        Decoded::Short => None,
+        Decoded::Unknown => None,
     }
 }
