@@ -6,6 +6,7 @@
 #![tactic(auto)]
 
 mod decoding;
+mod pieces;
 pub mod plan;
 pub mod rewriting;
 pub mod site;
