@@ -1,3 +1,6 @@
+pub mod PairWalk
 pub mod Fronts
+pub mod RunOrder
 pub mod RunSites
 pub mod Spellings
+pub mod TableWords

@@ -150,7 +150,7 @@ sites_split rs apart = split (code_of rs) 0 rs apart (λ b l. refl)
 pub decoded_tail : (ys xs : List ℕ) (k : ℕ) (d : Option (Insn × ℕ)) → ys ≡ xs → decoded (take (length ys - k) (drop k ys)) ≡ d → decoded (drop k xs) ≡ d
 decoded_tail ys xs k d e h = ap (λ (s : List ℕ). decoded (drop k s)) (sym e) ∙ sym (ap decoded (take_rest ys k)) ∙ h
 
-range_more : (n lo : ℕ) → range_with_len lo (n + 1) ≡ range_with_len lo n ++ (lo + n) ∷ []
+pub range_more : (n lo : ℕ) → range_with_len lo (n + 1) ≡ range_with_len lo n ++ (lo + n) ∷ []
 range_more zero lo = ap (λ (a : ℕ). a ∷ []) (omega arith)
 range_more (suc n) lo =
     let e : suc n + 1 ≡ suc (n + 1) = omega arith in

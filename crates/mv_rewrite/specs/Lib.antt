@@ -3,6 +3,7 @@ pub mod Decoding
 pub mod Sites
 pub mod Pieces
 pub mod Layout
+pub mod Lookup
 pub mod File
 pub mod Output
 pub mod Frame

@@ -6,11 +6,13 @@
 #![tactic(auto)]
 
 mod decoding;
+mod entries;
 mod pieces;
 pub mod plan;
 pub mod rewriting;
 pub mod site;
 mod sites;
+mod table;
 
 pub use plan::{Plan, RunPlaces};
 pub use rewriting::{FILE_LIMIT, RewriteFault, Rewritten, rewrite};
