@@ -2,7 +2,13 @@
 pub mod Appended
 pub mod Bytes
 pub mod Effects
+pub mod Faults
+pub mod Holding
+pub mod MemSinkState
+pub mod MemStoreState
 pub mod Memory
+pub mod Pieces
+pub mod Printing
 pub mod Span
 pub mod StatusCode
 pub mod Table

@@ -92,11 +92,12 @@ first_of (Some c) d = Some c
 abbrev pub joined : Memory → Memory → Memory
 joined m n a = first_of (m a) (n a)
 
+-- a byte in front of more, or nothing
+abbrev pub with_rest : Option ℕ → List ℕ → List ℕ
+with_rest None rest = []
+with_rest (Some b) rest = b ∷ rest
+
 -- the executable bytes from a on, at most n
 unfoldable pub exec_bytes : (ℕ → Option ℕ) → ℕ → ℕ → List ℕ
 exec_bytes code a zero = []
 exec_bytes code a (suc n) = with_rest (code a) (exec_bytes code (a + 1) n)
-  where
-    with_rest : Option ℕ → List ℕ → List ℕ
-    with_rest None rest = []
-    with_rest (Some b) rest = b ∷ rest

@@ -7,5 +7,6 @@ pub mod Lookup
 pub mod File
 pub mod Output
 pub mod Frame
+pub mod Relocated
 pub mod Simulation
 pub mod Rewriting
