@@ -1,4 +1,5 @@
 pub mod PairWalk
+pub mod Fit
 pub mod Fronts
 pub mod RunOrder
 pub mod RunSites

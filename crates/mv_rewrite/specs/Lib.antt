@@ -4,6 +4,7 @@ pub mod Sites
 pub mod Pieces
 pub mod Layout
 pub mod Lookup
+pub mod Room
 pub mod File
 pub mod Output
 pub mod Frame

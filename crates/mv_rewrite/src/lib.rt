@@ -10,6 +10,7 @@ mod entries;
 mod pieces;
 pub mod plan;
 pub mod rewriting;
+mod room;
 pub mod site;
 mod sites;
 mod table;
