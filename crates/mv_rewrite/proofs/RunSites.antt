@@ -34,7 +34,7 @@ exec_zero code a = refl
 inside : (lo len a : ℕ) → lo ≤ a → a < lo + len → within lo len a ≡ true
 inside lo len a h l = grind (arith, nat_tests)
 
-outside_below : (lo len a : ℕ) → a < lo → within lo len a ≡ false
+pub outside_below : (lo len a : ℕ) → a < lo → within lo len a ≡ false
 outside_below lo len a h = grind (arith, nat_tests)
 
 pub outside_above : (lo len a : ℕ) → lo + len ≤ a → within lo len a ≡ false
@@ -78,12 +78,12 @@ pub site_of_run : (r : Run) (k : ℕ) (d : Option (Insn × ℕ)) → k < length 
 site_of_run r k d l e =
     site_by (code_of (r ∷ [])) (r.lo + k) (get_or r.bytes k 0) d (run_byte r k ∙ slice_get-get_or r.bytes k 0 l) (ap decoded (exec_run r 15 k) ∙ decoded_take (drop k r.bytes) ∙ e)
 
-byte_cases : (o : Option ℕ) → (o ≡ None) ⊎ ((x : ℕ) × (o ≡ Some x))
+pub byte_cases : (o : Option ℕ) → (o ≡ None) ⊎ ((x : ℕ) × (o ≡ Some x))
 byte_cases None = inl refl
 byte_cases (Some x) = inr (x, refl)
 
 -- codes that agree up to an address that has no byte
-exec_same : (c d : ℕ → Option ℕ) (n a hi : ℕ) → a ≤ hi → d hi ≡ None → ((b : ℕ) → a ≤ b → b ≤ hi → c b ≡ d b) → exec_bytes c a n ≡ exec_bytes d a n
+pub exec_same : (c d : ℕ → Option ℕ) (n a hi : ℕ) → a ≤ hi → d hi ≡ None → ((b : ℕ) → a ≤ b → b ≤ hi → c b ≡ d b) → exec_bytes c a n ≡ exec_bytes d a n
 exec_same c d zero a hi l none same = exec_zero c a ∙ sym (exec_zero d a)
 exec_same c d (suc n) a hi l none same =
     elim (byte_cases (d a)) [
@@ -102,15 +102,15 @@ site_same : (c d : ℕ → Option ℕ) (a hi : ℕ) → a ≤ hi → d hi ≡ No
 unfolding fetch_in
 site_same c d a hi l none same = rw (same a (omega arith) l, exec_same c d 15 a hi l none same) refl
 
-code_below : (from : ℕ) (rs : List Run) → AreApart from rs → (b : ℕ) → b < from → code_of rs b ≡ None
+pub code_below : (from : ℕ) (rs : List Run) → AreApart from rs → (b : ℕ) → b < from → code_of rs b ≡ None
 code_below from [] apart b l = refl
 code_below from (r ∷ rs) apart b l =
     rw (outside_below r.lo (length r.bytes) b (omega (arith, apart.0))) (code_below (r.lo + length r.bytes + 1) rs apart.3 b (omega (arith, apart.0)))
 
-code_first : (from : ℕ) (r : Run) (rs : List Run) → AreApart from (r ∷ rs) → (b : ℕ) → b ≤ r.lo + length r.bytes → code_of (r ∷ rs) b ≡ code_of (r ∷ []) b
+pub code_first : (from : ℕ) (r : Run) (rs : List Run) → AreApart from (r ∷ rs) → (b : ℕ) → b ≤ r.lo + length r.bytes → code_of (r ∷ rs) b ≡ code_of (r ∷ []) b
 code_first from r rs apart b l = rw (code_below (r.lo + length r.bytes + 1) rs apart.3 b (omega arith)) refl
 
-code_later : (r : Run) (rs : List Run) (b : ℕ) → r.lo + length r.bytes ≤ b → code_of (r ∷ rs) b ≡ code_of rs b
+pub code_later : (r : Run) (rs : List Run) (b : ℕ) → r.lo + length r.bytes ≤ b → code_of (r ∷ rs) b ≡ code_of rs b
 code_later r rs b l = rw (outside_above r.lo (length r.bytes) b l)
 
 filter_same : (f g : ℕ → Option Site) (n lo : ℕ) → ((k : ℕ) → k < n → f (lo + k) ≡ g (lo + k)) → filter_map f (range_with_len lo n) ≡ filter_map g (range_with_len lo n)

@@ -5,6 +5,7 @@ pub mod Pieces
 pub mod Layout
 pub mod Lookup
 pub mod Room
+pub mod Slots
 pub mod File
 pub mod Output
 pub mod Frame

@@ -13,6 +13,7 @@ pub mod rewriting;
 mod room;
 pub mod site;
 mod sites;
+mod slots;
 mod table;
 
 pub use plan::{Plan, RunPlaces};

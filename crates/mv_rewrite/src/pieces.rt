@@ -82,6 +82,13 @@ pub fn copy_piece(bytes: &[u8]) -> Piece
     Piece::new(bytes)
 }
 
+/// No piece at all: that of an instruction whose flow has none.
+pub fn no_piece() -> Piece
+    ensures { result ≡ [] }
+{
+    Piece::new(&[])
+}
+
 /// The piece at `here` of a direct jump whose target now is `to`.
 pub fn jump_piece(_site: &Site, here: u32, to: u32) -> Piece
     requires { flow_of _site.now.insn ≡ Jump }
