@@ -3,6 +3,8 @@ pub mod Fit
 pub mod Fronts
 pub mod RunOrder
 pub mod RunSites
+pub mod SiteList
 pub mod SlotSteps
 pub mod Spellings
 pub mod TableWords
+pub mod ThinLayout

@@ -2,6 +2,7 @@
 pub mod Decoding
 pub mod Sites
 pub mod Pieces
+pub mod Laying
 pub mod Layout
 pub mod Lookup
 pub mod Room

@@ -7,6 +7,7 @@
 
 mod decoding;
 mod entries;
+mod layout;
 mod pieces;
 pub mod plan;
 pub mod rewriting;
