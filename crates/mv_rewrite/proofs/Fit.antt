@@ -1,8 +1,8 @@
 -- The lowest page at which a block fits between segments.
-use Rattle.std.proofs.Common.{◌≡◌, ℕ, zero, suc, ◌+◌, ◌-◌, ◌*◌, ◌/◌, ◌%◌, ◌<◌, ◌≤◌, ◌&&◌, ◌||◌, ◌⊎◌, Bool, true, false, cond, leb, ltb, List, [], ◌∷◌, ◌++◌, length, take, drop, get_or, Option, Some, None, refl, sym, ap, ◌∙◌, subst, inl, inr, arith}
+use Rattle.std.proofs.Common.{◌≡◌, ℕ, zero, suc, ◌+◌, ◌*◌, ◌/◌, ◌<◌, ◌≤◌, ◌&&◌, ◌||◌, Bool, true, false, List, [], ◌∷◌, length, take, drop, get_or, Some, None, refl, sym, ap, ◌∙◌, subst, inl, inr, arith}
 use Rattle.std.specs.List.{list_all}
 use Rattle.std.specs.Option.{option_map}
-use Rattle.std.specs.Prelude.{IsSome, nat_le}
+use Rattle.std.specs.Prelude.{nat_le}
 use Rattle.std.proofs.lemmas.Bool.{cases_lt}
 use Rattle.std.proofs.lemmas.Bool.Decides.{nat_tests}
 use Rattle.std.proofs.lemmas.List.{take-append-drop, take_all, drop_more}
@@ -43,11 +43,12 @@ unfolding lowest
 lowest_is test from zero q low high passes before = absurd (omega arith)
 lowest_is test from (suc n) q low high passes before =
     elim (cases_lt from q) [
-      inl l ↦ rw (before from (omega arith) l) (lowest_is test (from + 1) n q (omega arith) (omega arith) passes (λ p a b. before p (omega arith) b))
-    | inr l ↦
-        let same : from ≡ q = omega arith in
-        let here : test from ≡ true = ap test same ∙ passes in
-        rw here (ap Some same) ]
+      | inl l ↦ rw (before from (omega arith) l) (lowest_is test (from + 1) n q (omega arith) (omega arith) passes (λ p a b. before p (omega arith) b))
+      | inr l ↦
+          let same : from ≡ q = omega arith in
+          let here : test from ≡ true = ap test same ∙ passes in
+          rw here (ap Some same)
+    ]
 
 pub lowest_none : (test : ℕ → Bool) (from n : ℕ) → ((p : ℕ) → from ≤ p → p < from + n → test p ≡ false) → lowest test from n ≡ None
 unfolding lowest
@@ -76,7 +77,7 @@ pub fits_nowhere : (ss : List Segment) (size page : ℕ) → ((p : ℕ) → 0x10
 unfolding first_fit
 fits_nowhere ss size page before limit =
     ap (option_map (λ (p : ℕ). 4096 * p)) (lowest_none (has_room ss size) 0x100 0xAFF00 (λ p a b.
-      elim (cases_lt p page) [ inl l ↦ no_room_by_pages ss size p (before p a l) | inr l ↦ no_room_by_limit ss size p (omega arith) ]))
+    elim (cases_lt p page) [ inl l ↦ no_room_by_pages ss size p (before p a l) | inr l ↦ no_room_by_limit ss size p (omega arith) ]))
 
 -- segments that all end early or all begin late are apart from a block
 ends_apart : (from to : ℕ) (ss : List Segment) → list_all (ends_by from) ss ≡ true → list_all (is_apart from to) ss ≡ true
@@ -103,7 +104,7 @@ free_before from to ss k s l e ended rest below =
     ap (list_all (is_apart from to)) (sym (take-append-drop k ss))
     ∙ list_all-append (is_apart from to) (take k ss) (drop k ss)
     ∙ both (list_all (is_apart from to) (take k ss)) (list_all (is_apart from to) (drop k ss)) (ends_apart from to (take k ss) ended)
-        (ap (list_all (is_apart from to)) (rest_at ss k s l e) ∙ begins_apart from to (s.range.lo / 4096) (s ∷ drop (k + 1) ss) from_here below)
+    (ap (list_all (is_apart from to)) (rest_at ss k s l e) ∙ begins_apart from to (s.range.lo / 4096) (s ∷ drop (k + 1) ss) from_here below)
 
 -- a block above all segments is apart from all
 pub free_after : (from to : ℕ) (ss : List Segment) (k : ℕ) → length ss ≤ k → list_all (ends_by from) (take k ss) ≡ true → list_all (is_apart from to) ss ≡ true

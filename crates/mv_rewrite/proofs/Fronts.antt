@@ -1,5 +1,5 @@
 -- What bytes decode to depends on the front that is a spelling alone. No lemma here speaks of a row.
-use Rattle.std.proofs.Common.{◌≡◌, ℕ, zero, suc, ◌+◌, ◌-◌, ◌<◌, ◌≤◌, ◌⊎◌, List, [], ◌∷◌, length, take, Option, Some, None, refl, sym, ap, ◌∙◌, subst, inl, inr, arith}
+use Rattle.std.proofs.Common.{◌≡◌, ℕ, zero, suc, ◌+◌, ◌-◌, ◌<◌, ◌≤◌, ◌⊎◌, List, [], length, take, Option, Some, None, refl, sym, ap, ◌∙◌, subst, inl, inr, arith}
 use Rattle.std.proofs.lemmas.Bool.{cases_lt}
 use Rattle.std.proofs.lemmas.List.{take-take, take_all, nil_from_length}
 use Rattle.x86_insn.specs.declared.insn.Insn.{Insn}
@@ -52,17 +52,18 @@ unfolding first_spelled
 first_is s k zero i m w = absurd (omega (arith, w.from, w.below))
 first_is s k (suc n) i m w =
     elim (same_or_more k m w.from) [
-      inl e ↦
-        let h : spelled (take k s) ≡ Some i = subst (λ (x : ℕ). spelled (take x s) ≡ Some i) (sym e) w.spells in
-        rw h (ap (λ (x : ℕ). Some (i, x)) e)
-    | inr l ↦
-        let h : spelled (take k s) ≡ None = w.before k (omega arith) (omega arith) in
-        rw h (first_is s (k + 1) n i m (record {
-          from = l;
-          below = omega (arith, w.below);
-          spells = w.spells;
-          before = λ j low high. w.before j (omega arith) high;
-        })) ]
+      | inl e ↦
+          let h : spelled (take k s) ≡ Some i = subst (λ (x : ℕ). spelled (take x s) ≡ Some i) (sym e) w.spells in
+          rw h (ap (λ (x : ℕ). Some (i, x)) e)
+      | inr l ↦
+          let h : spelled (take k s) ≡ None = w.before k (omega arith) (omega arith) in
+          rw h (first_is s (k + 1) n i m (record {
+            from = l;
+            below = omega (arith, w.below);
+            spells = w.spells;
+            before = λ j low high. w.before j (omega arith) high;
+          }))
+    ]
 
 first_same : (s t : List ℕ) (k n : ℕ) → ((j : ℕ) → j < k + n → spelled (take j t) ≡ spelled (take j s)) → first_spelled k n t ≡ first_spelled k n s
 unfolding first_spelled
@@ -77,16 +78,18 @@ no_bytes_spelled = refl
 within_bytes : (s : List ℕ) (i : Insn) (m : ℕ) → IsFirst s 1 15 i m → m ≤ length s
 within_bytes s i m w =
     elim (cases_lt (length s) m) [
-      inl h ↦ elim (same_or_more 1 m w.from) [
-        inl e ↦
-          let nil : s ≡ [] = nil_from_length s (omega arith) in
-          let f = sym (ap spelled (take_all m s (omega arith))) ∙ w.spells in
-          absurd (cc (f, ap spelled nil, no_bytes_spelled))
-      | inr l ↦
-          let whole = ap spelled (take_all m s (omega arith)) in
-          let less = ap spelled (take_all (m - 1) s (omega arith)) in
-          absurd (cc (whole, less, w.spells, w.before (m - 1) (omega arith) (omega arith))) ]
-    | inr h ↦ h ]
+      | inl h ↦ elim (same_or_more 1 m w.from) [
+        | inl e ↦
+            let nil : s ≡ [] = nil_from_length s (omega arith) in
+            let f = sym (ap spelled (take_all m s (omega arith))) ∙ w.spells in
+            absurd (cc (f, ap spelled nil, no_bytes_spelled))
+        | inr l ↦
+            let whole = ap spelled (take_all m s (omega arith)) in
+            let less = ap spelled (take_all (m - 1) s (omega arith)) in
+            absurd (cc (whole, less, w.spells, w.before (m - 1) (omega arith) (omega arith)))
+      ]
+      | inr h ↦ h
+    ]
 
 -- the length of a front that is a spelling
 pub decoded_bounds : (s : List ℕ) (i : Insn) (n : ℕ) → decoded s ≡ Some (i, n) → (0 < n) × (n ≤ 15) × (n ≤ length s)
@@ -103,8 +106,8 @@ decoded_front s t i n h e =
       below = w.below;
       spells = ap spelled e ∙ w.spells;
       before = λ j low high.
-        let less : j ≤ n = omega arith in
-        ap spelled (sym (take-take j n t less) ∙ ap (take j) e ∙ take-take j n s less) ∙ w.before j low high;
+          let less : j ≤ n = omega arith in
+          ap spelled (sym (take-take j n t less) ∙ ap (take j) e ∙ take-take j n s less) ∙ w.before j low high;
     })
 
 -- bytes after the fifteenth don't matter

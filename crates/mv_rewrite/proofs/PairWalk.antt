@@ -1,5 +1,5 @@
 -- The entries of addresses in pairs whose first parts ascend.
-use Rattle.std.proofs.Common.{◌≡◌, ◌≢◌, ℕ, zero, suc, ◌+◌, ◌-◌, ◌*◌, ◌<◌, ◌≤◌, Bool, true, false, cond, List, [], ◌∷◌, ◌++◌, length, take, drop, map, ◌==◌, refl, sym, ap, ◌∙◌, subst, arith}
+use Rattle.std.proofs.Common.{◌≡◌, ◌≢◌, ℕ, ◌+◌, ◌<◌, ◌≤◌, true, false, List, [], ◌∷◌, ◌++◌, map, ◌==◌, refl, sym, ap, ◌∙◌, subst, arith}
 use Rattle.std.specs.List.{range_with_len}
 use Rattle.std.proofs.lemmas.Bool.Decides.{nat_tests}
 use Rattle.std.proofs.lemmas.List.{append_assoc, map-append}
@@ -64,9 +64,9 @@ pub word_more : (f : ℕ → ℕ) (lo n x : ℕ) (new now old : List ℕ) → x 
 word_more f lo n x new now old e h p =
     p ∙ ap (λ (t : List ℕ). t ++ word x) h ∙ append_assoc old (words (map f (range_with_len lo n))) (word x)
     ∙ ap (λ (t : List ℕ). old ++ t) (
-      ap (λ (y : ℕ). words (map f (range_with_len lo n)) ++ word y) e
-      ∙ ap (λ (t : List ℕ). words (map f (range_with_len lo n)) ++ t) (sym (words_one (f (lo + n))))
-      ∙ sym (ap words (ap (map f) (range_more n lo) ∙ map-append f (range_with_len lo n) ((lo + n) ∷ [])) ∙ words-append (map f (range_with_len lo n)) (f (lo + n) ∷ [])))
+    ap (λ (y : ℕ). words (map f (range_with_len lo n)) ++ word y) e
+    ∙ ap (λ (t : List ℕ). words (map f (range_with_len lo n)) ++ t) (sym (words_one (f (lo + n))))
+    ∙ sym (ap words (ap (map f) (range_more n lo) ∙ map-append f (range_with_len lo n) ((lo + n) ∷ [])) ∙ words-append (map f (range_with_len lo n)) (f (lo + n) ∷ [])))
 
 pub no_words : (f : ℕ → ℕ) (lo : ℕ) → words (map f (range_with_len lo 0)) ≡ []
 unfolding words

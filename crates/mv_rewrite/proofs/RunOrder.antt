@@ -1,7 +1,7 @@
 -- Runs in their order: where each begins and ends, and how many addresses they have.
-use Rattle.std.proofs.Common.{◌≡◌, ℕ, zero, suc, ◌+◌, ◌-◌, ◌*◌, ◌<◌, ◌≤◌, List, [], ◌∷◌, ◌++◌, length, take, drop, get_or, map, refl, sym, ap, ◌∙◌, subst, arith}
+use Rattle.std.proofs.Common.{◌≡◌, ℕ, zero, suc, ◌+◌, ◌*◌, ◌<◌, ◌≤◌, List, [], ◌∷◌, ◌++◌, length, take, get_or, map, refl, sym, ap, ◌∙◌, subst, arith}
 use Rattle.std.specs.List.{flat_map, range_with_len}
-use Rattle.std.proofs.lemmas.List.{length-append, append_assoc, append-nil, take_more, map-append}
+use Rattle.std.proofs.lemmas.List.{length-append, append-nil, take_more, map-append}
 use Rattle.std.proofs.lemmas.List.FromFn.{length-range_with_len}
 use Rattle.std.proofs.lemmas.Grind.{flat_map-append}
 use Rattle.mv_base.specs.Bytes.{words, word}
@@ -81,8 +81,8 @@ places_more (q ∷ rs) dir (suc k) r l e =
     let s : suc k + 1 ≡ suc (k + 1) = omega arith in
     let d : dir + 4 * length q.bytes + 4 * length (addresses (take k rs)) ≡ dir + 4 * length (addresses (q ∷ take k rs)) = omega (arith, length-cons q (take k rs)) in
     rw s (ap (λ (t : List RunPlace). (record { lo = q.lo; len = length q.bytes; dir = dir }) ∷ t)
-      (places_more rs (dir + 4 * length q.bytes) k r (omega arith) e
-        ∙ ap (λ (n : ℕ). run_places (dir + 4 * length q.bytes) (take k rs) ++ (record { lo = r.lo; len = length r.bytes; dir = n }) ∷ []) d))
+    (places_more rs (dir + 4 * length q.bytes) k r (omega arith) e
+    ∙ ap (λ (n : ℕ). run_places (dir + 4 * length q.bytes) (take k rs) ++ (record { lo = r.lo; len = length r.bytes; dir = n }) ∷ []) d))
 
 pub words-append : (xs ys : List ℕ) → words (xs ++ ys) ≡ words xs ++ words ys
 unfolding words

@@ -1,5 +1,5 @@
 -- The sites of runs are those of each run by itself.
-use Rattle.std.proofs.Common.{◌≡◌, ℕ, zero, suc, ◌+◌, ◌-◌, ◌<◌, ◌≤◌, ◌⊎◌, Bool, true, false, List, [], ◌∷◌, ◌++◌, length, take, drop, get_or, Option, Some, None, refl, sym, ap, ◌∙◌, subst, inl, inr, arith}
+use Rattle.std.proofs.Common.{◌≡◌, ℕ, zero, suc, ◌+◌, ◌-◌, ◌<◌, ◌≤◌, ◌⊎◌, true, false, List, [], ◌∷◌, ◌++◌, length, take, drop, get_or, Option, Some, None, refl, sym, ap, ◌∙◌, subst, inl, inr, arith}
 use Rattle.std.specs.Prelude.{slice_get}
 use Rattle.std.specs.List.{filter_map, flat_map, range_with_len}
 use Rattle.std.proofs.lemmas.Bool.{cases_lt}
@@ -43,16 +43,18 @@ outside_above lo len a h = grind (arith, nat_tests)
 pub run_byte : (r : Run) (k : ℕ) → code_of (r ∷ []) (r.lo + k) ≡ slice_get r.bytes k
 run_byte r k =
     elim (cases_lt k (length r.bytes)) [
-      inl l ↦
-        let e : r.lo + k - r.lo ≡ k = omega arith in
-        rw (inside r.lo (length r.bytes) (r.lo + k) (omega arith) (omega arith)) (ap (slice_get r.bytes) e)
-    | inr l ↦ rw (outside_above r.lo (length r.bytes) (r.lo + k) (omega arith)) (sym (slice_get_past r.bytes k l)) ]
+      | inl l ↦
+          let e : r.lo + k - r.lo ≡ k = omega arith in
+          rw (inside r.lo (length r.bytes) (r.lo + k) (omega arith) (omega arith)) (ap (slice_get r.bytes) e)
+      | inr l ↦ rw (outside_above r.lo (length r.bytes) (r.lo + k) (omega arith)) (sym (slice_get_past r.bytes k l))
+    ]
 
 bytes_cases : (xs : List ℕ) (k : ℕ) → ((slice_get xs k ≡ None) × (drop k xs ≡ [])) ⊎ ((x : ℕ) × (slice_get xs k ≡ Some x) × (drop k xs ≡ x ∷ drop (k + 1) xs))
 bytes_cases xs k =
     elim (cases_lt k (length xs)) [
-      inl l ↦ inr (get_or xs k 0, slice_get-get_or xs k 0 l, drop_more xs k 0 l)
-    | inr l ↦ inl (slice_get_past xs k l, drop_all k xs l) ]
+      | inl l ↦ inr (get_or xs k 0, slice_get-get_or xs k 0 l, drop_more xs k 0 l)
+      | inr l ↦ inl (slice_get_past xs k l, drop_all k xs l)
+    ]
 
 take_nil : (n : ℕ) (xs : List ℕ) → xs ≡ [] → take n xs ≡ []
 take_nil zero xs h = refl
@@ -62,12 +64,13 @@ pub exec_run : (r : Run) (n k : ℕ) → exec_bytes (code_of (r ∷ [])) (r.lo +
 exec_run r zero k = exec_zero (code_of (r ∷ [])) (r.lo + k)
 exec_run r (suc n) k =
     elim (bytes_cases r.bytes k) [
-      inl w ↦ exec_none (code_of (r ∷ [])) (r.lo + k) (suc n) (run_byte r k ∙ w.0) ∙ sym (take_nil (suc n) (drop k r.bytes) w.1)
-    | inr w ↦
-        let here = exec_some (code_of (r ∷ [])) (r.lo + k) n w.0 (run_byte r k ∙ w.1) in
-        let next : r.lo + k + 1 ≡ r.lo + (k + 1) = omega arith in
-        let rest = ap (λ (a : ℕ). exec_bytes (code_of (r ∷ [])) a n) next ∙ exec_run r n (k + 1) in
-        here ∙ ap (λ (t : List ℕ). w.0 ∷ t) rest ∙ sym (ap (take (suc n)) w.2) ]
+      | inl w ↦ exec_none (code_of (r ∷ [])) (r.lo + k) (suc n) (run_byte r k ∙ w.0) ∙ sym (take_nil (suc n) (drop k r.bytes) w.1)
+      | inr w ↦
+          let here = exec_some (code_of (r ∷ [])) (r.lo + k) n w.0 (run_byte r k ∙ w.1) in
+          let next : r.lo + k + 1 ≡ r.lo + (k + 1) = omega arith in
+          let rest = ap (λ (a : ℕ). exec_bytes (code_of (r ∷ [])) a n) next ∙ exec_run r n (k + 1) in
+          here ∙ ap (λ (t : List ℕ). w.0 ∷ t) rest ∙ sym (ap (take (suc n)) w.2)
+    ]
 
 site_by : (code : ℕ → Option ℕ) (a b : ℕ) (d : Option (Insn × ℕ)) → code a ≡ Some b → decoded (exec_bytes code a 15) ≡ d → site_at code a ≡ site_found a (fetched (Some b) d)
 unfolding fetch_in
@@ -87,16 +90,18 @@ pub exec_same : (c d : ℕ → Option ℕ) (n a hi : ℕ) → a ≤ hi → d hi 
 exec_same c d zero a hi l none same = exec_zero c a ∙ sym (exec_zero d a)
 exec_same c d (suc n) a hi l none same =
     elim (byte_cases (d a)) [
-      inl e ↦ exec_none c a (suc n) (same a (omega arith) l ∙ e) ∙ sym (exec_none d a (suc n) e)
-    | inr w ↦
-        elim (cases_lt a hi) [
-          inl h ↦
-            exec_some c a n w.0 (same a (omega arith) l ∙ w.1)
-            ∙ ap (λ (t : List ℕ). w.0 ∷ t) (exec_same c d n (a + 1) hi (omega arith) none (λ b low high. same b (omega arith) high))
-            ∙ sym (exec_some d a n w.0 w.1)
-        | inr h ↦
-            let at_end : a ≡ hi = omega arith in
-            absurd (cc (ap d at_end, w.1, none)) ] ]
+      | inl e ↦ exec_none c a (suc n) (same a (omega arith) l ∙ e) ∙ sym (exec_none d a (suc n) e)
+      | inr w ↦
+          elim (cases_lt a hi) [
+            | inl h ↦
+                exec_some c a n w.0 (same a (omega arith) l ∙ w.1)
+                ∙ ap (λ (t : List ℕ). w.0 ∷ t) (exec_same c d n (a + 1) hi (omega arith) none (λ b low high. same b (omega arith) high))
+                ∙ sym (exec_some d a n w.0 w.1)
+            | inr h ↦
+                let at_end : a ≡ hi = omega arith in
+                absurd (cc (ap d at_end, w.1, none))
+          ]
+    ]
 
 site_same : (c d : ℕ → Option ℕ) (a hi : ℕ) → a ≤ hi → d hi ≡ None → ((b : ℕ) → a ≤ b → b ≤ hi → c b ≡ d b) → site_at c a ≡ site_at d a
 unfolding fetch_in
@@ -134,8 +139,8 @@ split code from (r ∷ rs) apart same =
     let len = length r.bytes in
     let end : code_of (r ∷ []) (r.lo + len) ≡ None = run_byte r len ∙ slice_get_past r.bytes len (omega arith) in
     let first = filter_same (site_at code) (site_at (code_of (r ∷ []))) len r.lo (λ k l.
-      site_same code (code_of (r ∷ [])) (r.lo + k) (r.lo + len) (omega arith) end (λ b low high.
-        same b (omega (arith, apart.0)) ∙ code_first from r rs apart b high)) in
+    site_same code (code_of (r ∷ [])) (r.lo + k) (r.lo + len) (omega arith) end (λ b low high.
+    same b (omega (arith, apart.0)) ∙ code_first from r rs apart b high)) in
     let rest = split code (r.lo + len + 1) rs apart.3 (λ b low. same b (omega (arith, apart.0)) ∙ code_later r rs b (omega arith)) in
     filter_map-append (site_at code) (run_addresses r) (flat_map run_addresses rs)
     ∙ ap (λ (t : List Site). t ++ filter_map (site_at code) (flat_map run_addresses rs)) (first ∙ sym (run_sites_are r))

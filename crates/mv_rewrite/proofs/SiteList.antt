@@ -1,7 +1,6 @@
 -- The sites of runs: they ascend, lie in the runs and are at most 15 bytes long.
-use Rattle.std.proofs.Common.{◌≡◌, ◌≢◌, ℕ, zero, suc, ◌+◌, ◌-◌, ◌*◌, ◌^◌, ◌<◌, ◌≤◌, ◌⊎◌, List, [], ◌∷◌, ◌++◌, length, Option, Some, None, refl, sym, ap, ◌∙◌, subst, inl, inr, arith}
-use Rattle.std.specs.Prelude.{slice_get, IfSome}
-use Rattle.std.specs.List.{filter_map, flat_map, range_with_len}
+use Rattle.std.proofs.Common.{◌≡◌, ◌≢◌, ℕ, zero, suc, ◌+◌, ◌*◌, ◌≤◌, ◌⊎◌, List, [], ◌∷◌, ◌++◌, length, Option, Some, None, refl, sym, ap, ◌∙◌, subst, inl, inr, arith}
+use Rattle.std.specs.List.{filter_map, range_with_len}
 use Rattle.mv_base.specs.Memory.{exec_bytes}
 use Rattle.x86_insn.specs.declared.insn.Insn.{Insn}
 use Rattle.x86_insn.specs.Spelling.{decoded}
@@ -9,7 +8,7 @@ use Rattle.x86_insn.specs.Step.{fetch_in, fetched}
 use Rattle.elf32_read.specs.declared.run.Run.{Run}
 use Rattle.elf32_read.specs.Runs.{code_of, AreApart}
 use Rattle.mv_rewrite.specs.declared.site.Site.{Site}
-use Rattle.mv_rewrite.specs.Sites.{site_at, site_found, run_addresses, addresses, sites_in}
+use Rattle.mv_rewrite.specs.Sites.{site_at, site_found, addresses, sites_in}
 use Rattle.mv_rewrite.specs.Layout.{places, entry_in}
 use Rattle.mv_rewrite.specs.Lookup.{Ascend}
 use Rattle.mv_rewrite.specs.Slots.{AreShort}
@@ -68,7 +67,7 @@ increase_addresses from [] h = tt
 increase_addresses from (r ∷ rs) h =
     let rest = increase_addresses (r.lo + length r.bytes + 1) rs h.3 in
     increase_weaker from r.lo (addresses (r ∷ rs)) h.0
-      (increase_range (length r.bytes) r.lo (addresses rs) (increase_weaker (r.lo + length r.bytes) (r.lo + length r.bytes + 1) (addresses rs) (omega arith) rest))
+    (increase_range (length r.bytes) r.lo (addresses rs) (increase_weaker (r.lo + length r.bytes) (r.lo + length r.bytes + 1) (addresses rs) (omega arith) rest))
 
 places-cons : (at : ℕ) (s : Site) (ss : List Site) → places at (s ∷ ss) ≡ (s.at, at) ∷ places (at + 32) ss
 unfolding places
@@ -85,30 +84,32 @@ ascend_places : (code : ℕ → Option ℕ) (xs : List ℕ) (at from : ℕ) → 
 ascend_places code [] at from h = subst (λ (t : List (ℕ × ℕ)). Ascend from t) (sym (places_none at)) tt
 ascend_places code (a ∷ xs) at from h =
     elim (site_cases (site_at code a)) [
-      inl e ↦
-        subst (λ (t : List Site). Ascend from (places at t)) (sym (keep_none (site_at code) a xs e))
+      | inl e ↦
+          subst (λ (t : List Site). Ascend from (places at t)) (sym (keep_none (site_at code) a xs e))
           (ascend_weaker from (a + 1) (places at (filter_map (site_at code) xs)) (omega (arith, h.0)) (ascend_places code xs at (a + 1) h.1))
-    | inr w ↦
-        let s = w.0 in
-        let facts = site_is code a s w.1 in
-        let rest = ascend_places code xs (at + 32) (a + 1) h.1 in
-        let next : a + 1 ≡ s.at + 1 = omega (arith, facts.at_is) in
-        subst (λ (t : List (ℕ × ℕ)). Ascend from t) (sym (ap (places at) (keep_some (site_at code) a xs s w.1) ∙ places-cons at s (filter_map (site_at code) xs)))
-          (omega (arith, facts.at_is, h.0), subst (λ (x : ℕ). Ascend x (places (at + 32) (filter_map (site_at code) xs))) next rest) ]
+      | inr w ↦
+          let s = w.0 in
+          let facts = site_is code a s w.1 in
+          let rest = ascend_places code xs (at + 32) (a + 1) h.1 in
+          let next : a + 1 ≡ s.at + 1 = omega (arith, facts.at_is) in
+          subst (λ (t : List (ℕ × ℕ)). Ascend from t) (sym (ap (places at) (keep_some (site_at code) a xs s w.1) ∙ places-cons at s (filter_map (site_at code) xs)))
+          (omega (arith, facts.at_is, h.0), subst (λ (x : ℕ). Ascend x (places (at + 32) (filter_map (site_at code) xs))) next rest)
+    ]
 
 -- an address without a byte has no entry
 entry_unmapped : (code : ℕ → Option ℕ) (xs : List ℕ) (at b : ℕ) → code b ≡ None → entry_in (places at (filter_map (site_at code) xs)) b ≡ 0
 entry_unmapped code [] at b none = ap (λ (t : List (ℕ × ℕ)). entry_in t b) (places_none at) ∙ entry_none b
 entry_unmapped code (a ∷ xs) at b none =
     elim (site_cases (site_at code a)) [
-      inl e ↦ ap (λ (t : List Site). entry_in (places at t) b) (keep_none (site_at code) a xs e) ∙ entry_unmapped code xs at b none
-    | inr w ↦
-        let s = w.0 in
-        let facts = site_is code a s w.1 in
-        let other : s.at ≢ b = λ same. facts.mapped (ap code (sym facts.at_is ∙ same) ∙ none) in
-        ap (λ (t : List (ℕ × ℕ)). entry_in t b) (ap (places at) (keep_some (site_at code) a xs s w.1) ∙ places-cons at s (filter_map (site_at code) xs))
-        ∙ entry_later (s.at, at) (places (at + 32) (filter_map (site_at code) xs)) b other
-        ∙ entry_unmapped code xs (at + 32) b none ]
+      | inl e ↦ ap (λ (t : List Site). entry_in (places at t) b) (keep_none (site_at code) a xs e) ∙ entry_unmapped code xs at b none
+      | inr w ↦
+          let s = w.0 in
+          let facts = site_is code a s w.1 in
+          let other : s.at ≢ b = λ same. facts.mapped (ap code (sym facts.at_is ∙ same) ∙ none) in
+          ap (λ (t : List (ℕ × ℕ)). entry_in t b) (ap (places at) (keep_some (site_at code) a xs s w.1) ∙ places-cons at s (filter_map (site_at code) xs))
+          ∙ entry_later (s.at, at) (places (at + 32) (filter_map (site_at code) xs)) b other
+          ∙ entry_unmapped code xs (at + 32) b none
+    ]
 
 -- no entry lies above the last slot
 pub entry_fits : (ss : List Site) (at b : ℕ) → entry_in (places at ss) b ≤ at + 32 * length ss
@@ -116,8 +117,9 @@ entry_fits [] at b = omega (arith, ap (λ (t : List (ℕ × ℕ)). entry_in t b)
 entry_fits (s ∷ ss) at b =
     let e = ap (λ (t : List (ℕ × ℕ)). entry_in t b) (places-cons at s ss) in
     elim (cases_eq s.at b) [
-      inl h ↦ omega (arith, e ∙ entry_here (s.at, at) (places (at + 32) ss) b h)
-    | inr h ↦ omega (arith, e ∙ entry_later (s.at, at) (places (at + 32) ss) b h, entry_fits ss (at + 32) b) ]
+      | inl h ↦ omega (arith, e ∙ entry_here (s.at, at) (places (at + 32) ss) b h)
+      | inr h ↦ omega (arith, e ∙ entry_later (s.at, at) (places (at + 32) ss) b h, entry_fits ss (at + 32) b)
+    ]
 
 short_cons : (s : Site) (ss : List Site) → s.len ≤ 15 → AreShort ss → AreShort (s ∷ ss)
 short_cons s ss l h zero = l
@@ -127,15 +129,17 @@ short_list : (code : ℕ → Option ℕ) (xs : List ℕ) → AreShort (filter_ma
 short_list code [] k = tt
 short_list code (a ∷ xs) k =
     elim (site_cases (site_at code a)) [
-      inl e ↦ subst (λ (t : List Site). AreShort t) (sym (keep_none (site_at code) a xs e)) (short_list code xs) k
-    | inr w ↦ subst (λ (t : List Site). AreShort t) (sym (keep_some (site_at code) a xs w.0 w.1)) (short_cons w.0 (filter_map (site_at code) xs) (site_is code a w.0 w.1).short (short_list code xs)) k ]
+      | inl e ↦ subst (λ (t : List Site). AreShort t) (sym (keep_none (site_at code) a xs e)) (short_list code xs) k
+      | inr w ↦ subst (λ (t : List Site). AreShort t) (sym (keep_some (site_at code) a xs w.0 w.1)) (short_cons w.0 (filter_map (site_at code) xs) (site_is code a w.0 w.1).short (short_list code xs)) k
+    ]
 
 pub length-filter_map : (f : ℕ → Option Site) (xs : List ℕ) → length (filter_map f xs) ≤ length xs
 length-filter_map f [] = omega arith
 length-filter_map f (a ∷ xs) =
     elim (site_cases (f a)) [
-      inl e ↦ omega (arith, ap length (keep_none f a xs e), length-filter_map f xs)
-    | inr w ↦ omega (arith, ap length (keep_some f a xs w.0 w.1), length-filter_map f xs) ]
+      | inl e ↦ omega (arith, ap length (keep_none f a xs e), length-filter_map f xs)
+      | inr w ↦ omega (arith, ap length (keep_some f a xs w.0 w.1), length-filter_map f xs)
+    ]
 
 -- the facts of the sites of runs
 pub sites_ascend : (rs : List Run) (base : ℕ) → AreApart 0 rs → Ascend 0 (places base (sites_in (code_of rs) rs))

@@ -1,8 +1,7 @@
 -- The bytes of a site in the runs, and slots one after the other.
-use Rattle.std.proofs.Common.{◌≡◌, ℕ, zero, suc, ◌+◌, ◌-◌, ◌*◌, ◌<◌, ◌≤◌, ◌⊎◌, List, [], ◌∷◌, ◌++◌, length, take, drop, get_or, min, replicate, Option, Some, None, refl, sym, ap, ◌∙◌, subst, inl, inr, arith}
-use Rattle.std.specs.Prelude.{slice_get, IfSome}
-use Rattle.std.proofs.lemmas.Bool.{cases_lt}
-use Rattle.std.proofs.lemmas.List.{length-append, length-take, append_assoc, append-nil, drop_more, drop-replicate, take_min, take_rest, get_or_default}
+use Rattle.std.proofs.Common.{◌≡◌, ℕ, zero, suc, ◌+◌, ◌-◌, ◌*◌, ◌<◌, ◌≤◌, ◌⊎◌, List, [], ◌∷◌, ◌++◌, length, take, drop, get_or, replicate, Option, None, refl, sym, ap, ◌∙◌, subst, inl, inr, arith}
+use Rattle.std.specs.Prelude.{IfSome}
+use Rattle.std.proofs.lemmas.List.{length-append, append_assoc, append-nil, drop_more, drop-replicate, take_rest, get_or_default}
 use Rattle.std.proofs.lemmas.Option.{slice_get_read}
 use Rattle.mv_base.specs.Memory.{exec_bytes}
 use Rattle.mv_base.specs.Bytes.{word}
@@ -20,11 +19,12 @@ exec_agree : (c d : ℕ → Option ℕ) (n a : ℕ) → ((b : ℕ) → a ≤ b �
 exec_agree c d zero a same = exec_zero c a ∙ sym (exec_zero d a)
 exec_agree c d (suc n) a same =
     elim (byte_cases (d a)) [
-      inl e ↦ exec_none c a (suc n) (same a (omega arith) ∙ e) ∙ sym (exec_none d a (suc n) e)
-    | inr w ↦
-        exec_some c a n w.0 (same a (omega arith) ∙ w.1)
-        ∙ ap (λ (t : List ℕ). w.0 ∷ t) (exec_agree c d n (a + 1) (λ b low. same b (omega arith)))
-        ∙ sym (exec_some d a n w.0 w.1) ]
+      | inl e ↦ exec_none c a (suc n) (same a (omega arith) ∙ e) ∙ sym (exec_none d a (suc n) e)
+      | inr w ↦
+          exec_some c a n w.0 (same a (omega arith) ∙ w.1)
+          ∙ ap (λ (t : List ℕ). w.0 ∷ t) (exec_agree c d n (a + 1) (λ b low. same b (omega arith)))
+          ∙ sym (exec_some d a n w.0 w.1)
+    ]
 
 apart_weaker : (from : ℕ) (rs : List Run) → AreApart from rs → AreApart 0 rs
 apart_weaker from [] h = tt
@@ -41,11 +41,12 @@ apart_rest rs k r l e h =
 skip_first : (r : Run) (rs : List Run) (at n : ℕ) → AreApart 0 (r ∷ rs) → (at < r.lo) ⊎ (r.lo + length r.bytes ≤ at) → exec_bytes (code_of (r ∷ rs)) at n ≡ exec_bytes (code_of rs) at n
 skip_first r rs at n apart o =
     elim o [
-      inl l ↦
-        let none : code_of rs at ≡ None = code_below (r.lo + length r.bytes + 1) rs apart.3 at (omega arith) in
-        let none_here : code_of (r ∷ rs) at ≡ None = rw (outside_below r.lo (length r.bytes) at l) none in
-        exec_none (code_of (r ∷ rs)) at n none_here ∙ sym (exec_none (code_of rs) at n none)
-    | inr l ↦ exec_agree (code_of (r ∷ rs)) (code_of rs) n at (λ b low. code_later r rs b (omega arith)) ]
+      | inl l ↦
+          let none : code_of rs at ≡ None = code_below (r.lo + length r.bytes + 1) rs apart.3 at (omega arith) in
+          let none_here : code_of (r ∷ rs) at ≡ None = rw (outside_below r.lo (length r.bytes) at l) none in
+          exec_none (code_of (r ∷ rs)) at n none_here ∙ sym (exec_none (code_of rs) at n none)
+      | inr l ↦ exec_agree (code_of (r ∷ rs)) (code_of rs) n at (λ b low. code_later r rs b (omega arith))
+    ]
 
 -- a run that hasn't the address changes nothing
 pub skip_run : (rs : List Run) (k : ℕ) (r : Run) (at n : ℕ) → k < length rs → r ≡ get_or rs k r → AreApart 0 (drop k rs) → (at < r.lo) ⊎ (r.lo + length r.bytes ≤ at) → exec_bytes (code_of (drop k rs)) at n ≡ exec_bytes (code_of (drop (k + 1) rs)) at n
@@ -60,9 +61,9 @@ run_has rs k r at n l e apart low high =
     let here : r.lo + (at - r.lo) ≡ at = omega arith in
     let end : code_of (r ∷ []) (r.lo + length r.bytes) ≡ None = run_byte r (length r.bytes) ∙ slice_get_past r.bytes (length r.bytes) (omega arith) in
     sym (ap (λ (t : List Run). exec_bytes (code_of t) at n) (rest_of rs k r l e)
-      ∙ exec_same (code_of (r ∷ drop (k + 1) rs)) (code_of (r ∷ [])) n at (r.lo + length r.bytes) (omega arith) end (λ b a1 a2. code_first 0 r (drop (k + 1) rs) w b a2)
-      ∙ ap (λ (a : ℕ). exec_bytes (code_of (r ∷ [])) a n) (sym here)
-      ∙ exec_run r n (at - r.lo))
+    ∙ exec_same (code_of (r ∷ drop (k + 1) rs)) (code_of (r ∷ [])) n at (r.lo + length r.bytes) (omega arith) end (λ b a1 a2. code_first 0 r (drop (k + 1) rs) w b a2)
+    ∙ ap (λ (a : ℕ). exec_bytes (code_of (r ∷ [])) a n) (sym here)
+    ∙ exec_run r n (at - r.lo))
 
 pub no_run : (at n : ℕ) → [] ≡ exec_bytes (code_of []) at n
 no_run at n = sym (exec_none (code_of []) at n refl)
@@ -74,8 +75,9 @@ pub exec_short : (code : ℕ → Option ℕ) (n a : ℕ) → length (exec_bytes 
 exec_short code zero a = omega (arith, ap length (exec_zero code a))
 exec_short code (suc n) a =
     elim (byte_cases (code a)) [
-      inl e ↦ omega (arith, ap length (exec_none code a (suc n) e))
-    | inr w ↦ omega (arith, ap length (exec_some code a n w.0 w.1), exec_short code n (a + 1)) ]
+      | inl e ↦ omega (arith, ap length (exec_none code a (suc n) e))
+      | inr w ↦ omega (arith, ap length (exec_some code a n w.0 w.1), exec_short code n (a + 1))
+    ]
 
 pub jump_length : (here to : ℕ) → length (jump_bytes here to) ≡ 5
 unfolding word
@@ -86,7 +88,7 @@ pub slot_is : (move : ℕ → ℕ) (code : ℕ → Option ℕ) (here : ℕ) (s :
 unfolding slot
 slot_is move code here s p j old new e f h =
     let zeros : drop (length p + length j) (replicate 32 0) ≡ replicate (32 - length (p ++ j)) 0 =
-      drop-replicate (length p + length j) 32 0 ∙ ap (λ (n : ℕ). replicate (32 - n) 0) (sym (length-append p j)) in
+    drop-replicate (length p + length j) 32 0 ∙ ap (λ (n : ℕ). replicate (32 - n) 0) (sym (length-append p j)) in
     h ∙ ap (λ (t : List ℕ). ((old ++ p) ++ j) ++ t) zeros
     ∙ ap (λ (t : List ℕ). t ++ replicate (32 - length (p ++ j)) 0) (append_assoc old p j)
     ∙ append_assoc old (p ++ j) (replicate (32 - length (p ++ j)) 0)
@@ -125,7 +127,7 @@ slots_more move code (q ∷ ss) at (suc k) s l e =
     let t : suc k + 1 ≡ suc (k + 1) = omega arith in
     let d : at + 32 + 32 * k ≡ at + 32 * suc k = omega arith in
     rw t (ap (λ (t : List ℕ). slot move code at q ++ t) (slots_more move code ss (at + 32) k s (omega arith) e ∙ ap (λ (n : ℕ). slots move code (at + 32) (take k ss) ++ slot move code n s) d)
-      ∙ sym (append_assoc (slot move code at q) (slots move code (at + 32) (take k ss)) (slot move code (at + 32 * suc k) s)))
+    ∙ sym (append_assoc (slot move code at q) (slots move code (at + 32) (take k ss)) (slot move code (at + 32 * suc k) s)))
 
 pub slots_step : (move : ℕ → ℕ) (code : ℕ → Option ℕ) (ss : List Site) (base k : ℕ) (s : Site) (here : ℕ) (now new : List ℕ) → k < length ss → s ≡ get_or ss k s → here ≡ base + 32 * k → now ≡ slots move code base (take k ss) → new ≡ now ++ slot move code here s → new ≡ slots move code base (take (k + 1) ss)
 slots_step move code ss base k s here now new l e d h p =

@@ -1,16 +1,16 @@
 -- Which byte lists the rows of the spelling table spell, and what bytes decode to.
-use Rattle.std.proofs.Common.{◌≡◌, ◌≢◌, ℕ, zero, suc, ◌+◌, ◌-◌, ◌<◌, ◌≤◌, ◌&&◌, ◌⊎◌, Bool, true, false, List, [], ◌∷◌, ◌++◌, length, take, drop, get_or, replicate, Option, Some, None, ltb, leb, ◌==◌, cond, refl, sym, ap, ◌∙◌, inl, inr, arith, subst, rules}
+use Rattle.std.proofs.Common.{◌≡◌, ◌≢◌, ℕ, zero, suc, ◌+◌, ◌-◌, ◌<◌, ◌≤◌, ◌⊎◌, Bool, true, false, List, [], ◌∷◌, ◌++◌, length, take, get_or, replicate, Option, Some, None, cond, refl, sym, ap, inl, inr, arith, subst, rules}
 use Rattle.std.specs.Prelude.{IsSome}
 use Rattle.std.proofs.lemmas.Bool.Decides.{nat_tests}
-use Rattle.std.proofs.lemmas.List.{length-take, length-replicate, length-append, get_or-take, get_or-replicate, get_or_past, get_or_append_left}
+use Rattle.std.proofs.lemmas.List.{length-take, length-replicate, length-append}
 use Rattle.mv_base.specs.Bytes.{AreBytes, word_at, number}
 use Rattle.x86_insn.specs.declared.insn.Insn.{Insn}
 use Rattle.x86_insn.specs.declared.insn.Insn.TheVariants.{Mov, Nop, Jump, Int80, Hlt}
 use Rattle.x86_insn.specs.declared.insn.Width.TheVariants.{D}
 use Rattle.x86_insn.specs.declared.insn.Rm.TheVariants as rm
 use Rattle.x86_insn.specs.declared.insn.Src.TheVariants as src
-use Rattle.x86_insn.specs.Spelling.{Row, MovImm, NopKind, JumpNear, SystemCall as Call, Halt as HaltKind, spelled_from, spelled_by, spelled_by_row, rows, spelled, first_spelled, decoded, or_else, with_len, reg_of}
-use Rattle.mv_rewrite.specs.Decoding.{BeginsSpelling, IsDecoded}
+use Rattle.x86_insn.specs.Spelling.{Row, MovImm, NopKind, JumpNear, SystemCall as Call, Halt as HaltKind, spelled_from, spelled_by, spelled_by_row, rows, spelled, first_spelled, decoded, or_else, reg_of}
+use Rattle.mv_rewrite.specs.Decoding.{IsDecoded}
 use Rattle.mv_rewrite.specs.declared.decoding.Decoded.TheVariants.{Insn as Found, Short, Unknown}
 
 -- the rows by name
@@ -59,16 +59,21 @@ call_has_shape op (x ∷ xs) i h = let w = call_shape op x xs i h in SystemCall 
 shape_by_rows : (op : ℕ) (operand : List ℕ) (i : Insn) → spelled_by rows (op ∷ operand) ≡ Some i → Shape (op ∷ operand)
 shape_by_rows op operand i h =
     elim (or_cases _ _ i h) [
-      inl e ↦ let w = row_shape move_row op operand i e in Move w.0 (omega (arith, w)) (omega (arith, w))
-    | inr h1 ↦ elim (or_cases _ _ i h1) [
-        inl e ↦ let w = row_shape nop_row op operand i e in NoOperation (omega (arith, w)) (omega (arith, w))
-      | inr h2 ↦ elim (or_cases _ _ i h2) [
-          inl e ↦ let w = row_shape jump_row op operand i e in NearJump (omega (arith, w)) (omega (arith, w))
-        | inr h3 ↦ elim (or_cases _ _ i h3) [
-            inl e ↦ call_has_shape op operand i e
-          | inr h4 ↦ elim (or_cases _ _ i h4) [
-              inl e ↦ let w = row_shape halt_row op operand i e in Halt (omega (arith, w)) (omega (arith, w))
-            | inr h5 ↦ absurd (cc h5) ] ] ] ] ]
+      | inl e ↦ let w = row_shape move_row op operand i e in Move w.0 (omega (arith, w)) (omega (arith, w))
+      | inr h1 ↦ elim (or_cases _ _ i h1) [
+        | inl e ↦ let w = row_shape nop_row op operand i e in NoOperation (omega (arith, w)) (omega (arith, w))
+        | inr h2 ↦ elim (or_cases _ _ i h2) [
+          | inl e ↦ let w = row_shape jump_row op operand i e in NearJump (omega (arith, w)) (omega (arith, w))
+          | inr h3 ↦ elim (or_cases _ _ i h3) [
+            | inl e ↦ call_has_shape op operand i e
+            | inr h4 ↦ elim (or_cases _ _ i h4) [
+              | inl e ↦ let w = row_shape halt_row op operand i e in Halt (omega (arith, w)) (omega (arith, w))
+              | inr h5 ↦ absurd (cc h5)
+            ]
+          ]
+        ]
+      ]
+    ]
 
 within_limit : (b : Bool) (o : Option Insn) (i : Insn) → cond b o None ≡ Some i → o ≡ Some i
 within_limit true o i h = h
@@ -141,11 +146,12 @@ long_front op s l o zero sh = elim sh [ Move a b n ↦ omega arith | NoOperation
 long_front op s l o (suc j) sh =
     let n : length (take j s) ≤ 3 = omega (arith, length-take j s) in
     elim sh [
-      Move a b e ↦ omega arith
-    | NoOperation a e ↦ elim o [ inl w ↦ omega (arith, w) | inr w ↦ omega arith ]
-    | NearJump a e ↦ omega arith
-    | SystemCall a b e ↦ elim o [ inl w ↦ omega (arith, w) | inr w ↦ omega arith ]
-    | Halt a e ↦ elim o [ inl w ↦ omega (arith, w) | inr w ↦ omega arith ] ]
+      | Move a b e ↦ omega arith
+      | NoOperation a e ↦ elim o [ inl w ↦ omega (arith, w) | inr w ↦ omega arith ]
+      | NearJump a e ↦ omega arith
+      | SystemCall a b e ↦ elim o [ inl w ↦ omega (arith, w) | inr w ↦ omega arith ]
+      | Halt a e ↦ elim o [ inl w ↦ omega (arith, w) | inr w ↦ omega arith ]
+    ]
 
 pub zeros_are_bytes : (n : ℕ) → AreBytes (replicate n 0)
 zeros_are_bytes zero k = omega arith

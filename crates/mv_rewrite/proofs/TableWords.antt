@@ -1,11 +1,10 @@
 -- What a table of form 1 has for an address is the address's entry in its pairs.
-use Rattle.std.proofs.Common.{◌≡◌, ℕ, zero, suc, ◌+◌, ◌-◌, ◌*◌, ◌/◌, ◌%◌, ◌^◌, ◌<◌, ◌≤◌, Bool, true, false, cond, List, [], ◌∷◌, ◌++◌, length, take, drop, get_or, map, Option, Some, None, refl, sym, ap, ◌∙◌, subst, arith}
+use Rattle.std.proofs.Common.{◌≡◌, ℕ, zero, suc, ◌+◌, ◌-◌, ◌*◌, ◌^◌, ◌<◌, ◌≤◌, Bool, true, false, cond, List, [], ◌∷◌, ◌++◌, length, drop, get_or, map, Option, Some, None, refl, sym, ap, ◌∙◌, subst, arith}
 use Rattle.std.specs.Prelude.{IfNone, IsSome}
-use Rattle.std.specs.List.{range_with_len}
 use Rattle.std.proofs.lemmas.Bool.Decides.{nat_tests}
-use Rattle.std.proofs.lemmas.List.{length-append, length-map, append_assoc, append-nil, drop-drop, drop_at, get_or_append_left, map-append}
+use Rattle.std.proofs.lemmas.List.{length-append, length-map, append_assoc, drop-drop, drop_at, get_or_append_left, map-append}
 use Rattle.std.proofs.lemmas.List.FromFn.{length-range_with_len, get_or-range_with_len}
-use Rattle.mv_base.specs.Bytes.{words, word, word_at}
+use Rattle.mv_base.specs.Bytes.{words, word_at}
 use Rattle.mv_base.specs.Memory.{within}
 use Rattle.mv_base.specs.Table.{run_of, flat_word, flat_entry}
 use Rattle.mv_base.specs.declared.range.RunPlace.{RunPlace}
@@ -15,7 +14,7 @@ use Rattle.elf32_read.specs.Runs.{code_of}
 use Rattle.mv_rewrite.specs.Sites.{run_addresses, addresses}
 use Rattle.mv_rewrite.specs.Layout.{entry_in, table, run_places}
 use Rattle.mv_rewrite.specs.Lookup.{HasWords}
-use Rattle.mv_rewrite.proofs.RunOrder.{words-append, length-cons, length-nil, addresses-cons}
+use Rattle.mv_rewrite.proofs.RunOrder.{words-append, length-cons, addresses-cons}
 
 pub some_when : (o : Option ℕ) (n m : ℕ) → IfNone o (n < m) → m ≤ n → IsSome o
 some_when None n m h l = absurd (omega (arith, h))
@@ -76,7 +75,7 @@ first_run : (f : ℕ → ℕ) (r : Run) (rs : List Run) (k : ℕ) → k < length
 first_run f r rs k l fits =
     let len = length-range_with_len r.lo (length r.bytes) in
     let at : get_or (addresses (r ∷ rs)) k 0 ≡ r.lo + k =
-      ap (λ (t : List ℕ). get_or t k 0) (addresses-cons r rs) ∙ get_or_append_left (run_addresses r) (addresses rs) 0 k (omega (arith, len)) ∙ get_or-range_with_len r.lo (length r.bytes) k 0 l in
+    ap (λ (t : List ℕ). get_or t k 0) (addresses-cons r rs) ∙ get_or_append_left (run_addresses r) (addresses rs) 0 k (omega (arith, len)) ∙ get_or-range_with_len r.lo (length r.bytes) k 0 l in
     let in_all : k < length (addresses (r ∷ rs)) = omega (arith, length-cons r rs) in
     let is : get_or (map f (addresses (r ∷ rs))) k 0 ≡ f (r.lo + k) = map_at f (addresses (r ∷ rs)) k in_all ∙ ap f at in
     word_in (map f (addresses (r ∷ rs))) k (omega (arith, length-map (addresses (r ∷ rs)) f)) (subst (λ (n : ℕ). n < 2 ^ 32) (sym is) fits) ∙ is
@@ -104,10 +103,10 @@ unfolding run_places
 look_up f [] pre lo dir a d fits none = sym (none refl)
 look_up f (r ∷ rs) pre lo dir a d fits none =
     let next : dir + 4 * length r.bytes ≡ lo + length (pre ++ words (map f (run_addresses r))) =
-      omega (arith, length-append pre (words (map f (run_addresses r))), length-words (map f (run_addresses r)), length-map (run_addresses r) f, length-range_with_len r.lo (length r.bytes)) in
+    omega (arith, length-append pre (words (map f (run_addresses r))), length-words (map f (run_addresses r)), length-map (run_addresses r) f, length-range_with_len r.lo (length r.bytes)) in
     look_up_step f pre lo dir a r rs (within r.lo (length r.bytes) a) refl d fits none (λ later.
-      ap (λ (t : List ℕ). flat_word t lo a (run_of (run_places (dir + 4 * length r.bytes) rs) a)) (rest_of_table f pre r rs)
-      ∙ look_up f rs (pre ++ words (map f (run_addresses r))) lo (dir + 4 * length r.bytes) a next fits later)
+    ap (λ (t : List ℕ). flat_word t lo a (run_of (run_places (dir + 4 * length r.bytes) rs) a)) (rest_of_table f pre r rs)
+    ∙ look_up f rs (pre ++ words (map f (run_addresses r))) lo (dir + 4 * length r.bytes) a next fits later)
 
 -- the entry that a table has for any address
 pub table_entry_is : (pairs : List (ℕ × ℕ)) (rs : List Run) (lo : ℕ) → ((a : ℕ) → entry_in pairs a < 2 ^ 32) → ((a : ℕ) → code_of rs a ≡ None → entry_in pairs a ≡ 0) → (a : ℕ) → flat_entry (table pairs rs) lo (run_places lo rs) a ≡ entry_in pairs a

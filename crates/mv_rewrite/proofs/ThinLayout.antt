@@ -1,6 +1,6 @@
 -- The layout of a thin file: what its sites, its block and its table are.
-use Rattle.std.proofs.Common.{◌≡◌, ℕ, zero, suc, ◌+◌, ◌-◌, ◌*◌, ◌/◌, ◌%◌, ◌^◌, ◌<◌, ◌≤◌, ◌⊎◌, Bool, true, false, cond, List, [], ◌∷◌, length, take, drop, Option, Some, None, refl, sym, ap, ◌∙◌, subst, inl, inr, arith}
-use Rattle.std.specs.Prelude.{IsSome, nat_le}
+use Rattle.std.proofs.Common.{◌≡◌, ℕ, zero, suc, ◌+◌, ◌*◌, ◌/◌, ◌^◌, ◌<◌, ◌≤◌, ◌⊎◌, Bool, true, false, cond, List, [], ◌∷◌, length, Option, Some, None, refl, sym, ap, ◌∙◌, subst, inl, inr, arith}
+use Rattle.std.specs.Prelude.{IsSome}
 use Rattle.std.specs.List.{list_all}
 use Rattle.std.specs.Option.{option_map}
 use Rattle.std.proofs.lemmas.Bool.{cases_lt}
@@ -25,7 +25,7 @@ use Rattle.mv_rewrite.specs.Room.{ArePagesApart}
 use Rattle.mv_rewrite.specs.Slots.{AreShort}
 use Rattle.mv_base.specs.Table.{entry_or, flat_entry}
 use Rattle.mv_rewrite.proofs.RunOrder.{length-cons, length-nil}
-use Rattle.mv_rewrite.proofs.Fit.{ends_by, fits_at, taken}
+use Rattle.mv_rewrite.proofs.Fit.{fits_at, taken}
 use Rattle.mv_rewrite.proofs.SiteList.{sites_ascend, sites_mapped, sites_short, sites_count, entry_fits}
 use Rattle.mv_rewrite.proofs.TableWords.{table_entry_is, table_has_words}
 
@@ -102,15 +102,17 @@ fits_one h len n facts some limit =
     let s = thin_segment h in
     let end = (h.vaddr + h.memsz + 4095) / 4096 in
     let at_first = λ (o : (0x100 + n / 4096 ≤ s.range.lo / 4096) ⊎ ((s.range.lo + s.range.len + 4095) / 4096 ≤ 0x100)).
-      some_is (first_fit (s ∷ []) n) (4096 * 0x100) (fits_at (s ∷ []) n 0x100 (omega arith) (omega arith) (one_apart 0x100 (0x100 + n / 4096) s o) (λ p low high. absurd (omega arith)) (omega arith)) in
+    some_is (first_fit (s ∷ []) n) (4096 * 0x100) (fits_at (s ∷ []) n 0x100 (omega arith) (omega arith) (one_apart 0x100 (0x100 + n / 4096) s o) (λ p low high. absurd (omega arith)) (omega arith)) in
     elim (cases_lt (h.vaddr / 4096) (0x100 + n / 4096)) [
-      inl below ↦
-        elim (cases_lt 0x100 end) [
-          inl above ↦
-            some_is (first_fit (s ∷ []) n) (4096 * end) (fits_at (s ∷ []) n end (omega arith) (omega arith) (one_apart end (end + n / 4096) s (inr (omega arith)))
-              (λ p low high. taken (s ∷ []) 0 s p (p + n / 4096) (omega arith) refl (omega arith) (omega arith)) (omega (arith, facts.limit)))
-        | inr l ↦ at_first (inr l) ]
-    | inr l ↦ at_first (inl l) ]
+      | inl below ↦
+          elim (cases_lt 0x100 end) [
+            | inl above ↦
+                some_is (first_fit (s ∷ []) n) (4096 * end) (fits_at (s ∷ []) n end (omega arith) (omega arith) (one_apart end (end + n / 4096) s (inr (omega arith)))
+                (λ p low high. taken (s ∷ []) 0 s p (p + n / 4096) (omega arith) refl (omega arith) (omega arith)) (omega (arith, facts.limit)))
+            | inr l ↦ at_first (inr l)
+          ]
+      | inr l ↦ at_first (inl l)
+    ]
 
 -- a thin file always has room for its block
 pub base_of-thin : (b : List ℕ) → is_thin b ≡ true → IsSome (base_of b)
@@ -160,17 +162,17 @@ pub moves_as : (b : List ℕ) (rs : List Run) (ss : List Site) (base lo : ℕ) (
 moves_as b rs ss base lo t facts room is =
     let pairs = places base ss in
     let entry : (a : ℕ) → table_entry t a ≡ entry_in pairs a = λ a.
-      ap (λ (x : List ℕ). flat_entry x t.lo t.places a) is.bytes_are
-      ∙ ap (λ (x : ℕ). flat_entry (table pairs rs) x t.places a) is.lo_is
-      ∙ ap (λ (x : List RunPlace). flat_entry (table pairs rs) lo x a) is.places_are
-      ∙ table_entry_is pairs rs lo (λ x. omega (arith, entry_fits ss base x)) (facts.mapped base) a in
+    ap (λ (x : List ℕ). flat_entry x t.lo t.places a) is.bytes_are
+    ∙ ap (λ (x : ℕ). flat_entry (table pairs rs) x t.places a) is.lo_is
+    ∙ ap (λ (x : List RunPlace). flat_entry (table pairs rs) lo x a) is.places_are
+    ∙ table_entry_is pairs rs lo (λ x. omega (arith, entry_fits ss base x)) (facts.mapped base) a in
     same_moves (table_move t) (moved pairs) (λ a. ap (λ (x : ℕ). entry_or x a) (entry a))
 
 pub covered : (pairs : List (ℕ × ℕ)) (rs : List Run) (lo : ℕ) (t : AddressTable) → IsTable pairs rs lo t → HasWords t.bytes t.lo t.places
 covered pairs rs lo t is =
     subst (λ (x : List ℕ). HasWords x t.lo t.places) (sym is.bytes_are)
-      (subst (λ (x : ℕ). HasWords (table pairs rs) x t.places) (sym is.lo_is)
-        (subst (λ (x : List RunPlace). HasWords (table pairs rs) lo x) (sym is.places_are) (table_has_words pairs rs lo)))
+    (subst (λ (x : ℕ). HasWords (table pairs rs) x t.places) (sym is.lo_is)
+    (subst (λ (x : List RunPlace). HasWords (table pairs rs) lo x) (sym is.places_are) (table_has_words pairs rs lo)))
 
 -- the plan field by field
 pub plan_is : (b : List ℕ) (p : Plan) → p.code ≡ slots (moved (places p.base (sites b))) (code_in b) p.base (sites b) → p.table ≡ table (places p.base (sites b)) (runs_of b) → p.counted ≡ [] → p.runs ≡ run_places (p.base + up (32 * length (sites b))) (runs_of b) → p.entry ≡ moved (places p.base (sites b)) (entry_at b) → p ≡ plan_at b p.base
@@ -185,9 +187,9 @@ laid b rs ss lo t pairs p facts e f base_is pairs_are lo_is is code_is table_is 
     record {
       base_is = base_is;
       plan_is = plan_is b p
-        (code_is ∙ ap (λ (m : ℕ → ℕ). slots m (code_of rs) p.base ss) move ∙ ap (λ (c : ℕ → Option ℕ). slots (moved (places p.base ss)) c p.base ss) (sym facts.code_is) ∙ ap (λ (x : List Site). slots (moved (places p.base x)) (code_in b) p.base x) f)
-        (table_is ∙ is_table.bytes_are ∙ ap (λ (x : List Site). table (places p.base x) rs) f ∙ ap (table (places p.base (sites b))) e)
-        counted_is
-        (runs_is ∙ is_table.places_are ∙ ap (λ (x : ℕ). run_places x rs) lo_is ∙ ap (λ (x : List Site). run_places (p.base + up (32 * length x)) rs) f ∙ ap (run_places (p.base + up (32 * length (sites b)))) e)
-        (entry_is ∙ ap (λ (m : ℕ → ℕ). m (entry_at b)) move ∙ ap (λ (x : List Site). moved (places p.base x) (entry_at b)) f);
+          (code_is ∙ ap (λ (m : ℕ → ℕ). slots m (code_of rs) p.base ss) move ∙ ap (λ (c : ℕ → Option ℕ). slots (moved (places p.base ss)) c p.base ss) (sym facts.code_is) ∙ ap (λ (x : List Site). slots (moved (places p.base x)) (code_in b) p.base x) f)
+          (table_is ∙ is_table.bytes_are ∙ ap (λ (x : List Site). table (places p.base x) rs) f ∙ ap (table (places p.base (sites b))) e)
+          counted_is
+          (runs_is ∙ is_table.places_are ∙ ap (λ (x : ℕ). run_places x rs) lo_is ∙ ap (λ (x : List Site). run_places (p.base + up (32 * length x)) rs) f ∙ ap (run_places (p.base + up (32 * length (sites b)))) e)
+          (entry_is ∙ ap (λ (m : ℕ → ℕ). m (entry_at b)) move ∙ ap (λ (x : List Site). moved (places p.base x) (entry_at b)) f);
     }

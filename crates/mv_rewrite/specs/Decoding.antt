@@ -1,6 +1,6 @@
 -- What decoding bytes gives: the instruction that a front of them spells, or why there is none. The three answers are
 -- this project's own.
-use Rattle.std.specs.Prelude.{◌≡◌, ℕ, ◌<◌, ◌≤◌, List, ◌++◌, length, Option, Some, None, IsSome}
+use Rattle.std.specs.Prelude.{◌≡◌, ℕ, ◌<◌, ◌≤◌, List, ◌++◌, length, Some, None, IsSome}
 use Rattle.mv_base.specs.Bytes.{AreBytes}
 use Rattle.x86_insn.specs.Spelling.{spelled, decoded}
 use Rattle.mv_rewrite.specs.declared.decoding.Decoded.{Decoded}

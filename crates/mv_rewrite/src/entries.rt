@@ -45,11 +45,7 @@ pub fn place_runs(alloc: Global, runs: &[Run], first: u32) -> Result<Vec<RunPlac
 }
 
 /// The bytes of the table: the entry of each address of the runs. The old addresses of the pairs strictly ascend.
-pub fn table_bytes(
-    alloc: Global,
-    runs: &[Run],
-    pairs: &[(u32, u32)],
-) -> Result<Vec<u8>, NoMemory>
+pub fn table_bytes(alloc: Global, runs: &[Run], pairs: &[(u32, u32)]) -> Result<Vec<u8>, NoMemory>
     requires apart { AreApart 0 runs.now }
     requires ascend { Ascend 0 pairs.now }
     ensures { IfOk result (λ bytes. bytes.items ≡ table_of pairs.now runs.now) }

@@ -94,12 +94,8 @@ fn piece(runs: &[Run], table: &AddressTable, site: &Site, here: u32) -> Piece
             copy_piece(bytes_from(runs, site.at, usize::from(site.len)))
         }
         Flow::Jump => jump_piece(site, here, table.moved(target(site))),
-        Flow::Branch
-        | Flow::Count
-        | Flow::Call
-        | Flow::JumpVia
-        | Flow::CallVia
-        | Flow::Return => no_piece(),
+        Flow::Branch | Flow::Count | Flow::Call | Flow::JumpVia | Flow::CallVia | Flow::Return =>
+            no_piece(),
     }
 }
 
@@ -140,5 +136,9 @@ fn tail_from<'a>(run: &'a Run, at: u32) -> Option<&'a [u8]>
     }
     let bytes = run.bytes.as_slice();
     let offset = (at - run.lo) as usize;
-    if offset < bytes.len() { Some(&bytes[offset..]) } else { None }
+    if offset < bytes.len() {
+        Some(&bytes[offset..])
+    } else {
+        None
+    }
 }

@@ -1,4 +1,4 @@
-use Rattle.std.proofs.Common.{◌≡◌, Some, ap, sym, ◌∙◌, arith}
+use Rattle.std.proofs.Common.{arith}
 use Rattle.mv_rewrite.proofs.Spellings.{move_is, move_short}
 use Rattle.mv_rewrite.proofs.decoding.move_immediate.Goals as goal
 

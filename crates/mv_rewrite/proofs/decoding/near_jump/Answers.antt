@@ -1,4 +1,4 @@
-use Rattle.std.proofs.Common.{◌≡◌, Some, ap, sym, ◌∙◌, arith}
+use Rattle.std.proofs.Common.{Some, ap, sym, ◌∙◌, arith}
 use Rattle.x86_insn.specs.declared.insn.Insn.TheVariants.{Jump}
 use Rattle.mv_rewrite.proofs.Spellings.{jump_is, jump_short}
 use Rattle.mv_rewrite.proofs.decoding.near_jump.Goals as goal

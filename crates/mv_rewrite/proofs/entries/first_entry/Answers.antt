@@ -1,4 +1,3 @@
-use Rattle.std.proofs.Common.{arith}
 use Rattle.std.proofs.lemmas.List.{nil_from_length}
 use Rattle.mv_rewrite.proofs.PairWalk.{first_entry_here, first_entry_above, first_entry_none}
 use Rattle.mv_rewrite.proofs.entries.first_entry.Goals as goal

@@ -7,8 +7,8 @@ pub loop-pair-preserved : goal.loop-pair-preserved
 loop-pair-preserved c = record {
   ascend = ascend_tail c.loop-pair.rest.now c.in-Some.others.now c.in-Some.pair.now c.loop-pair.invariant.ascend c.in-Some.ensures.cases.0;
   same = λ a low.
-    same_tail c.loop-pair.rest.now c.in-Some.others.now c.in-Some.pair.now c.args.address a c.in-Some.ensures.cases.0 c.if-pair-address.false low
-    ∙ c.loop-pair.invariant.same a low;
+      same_tail c.loop-pair.rest.now c.in-Some.others.now c.in-Some.pair.now c.args.address a c.in-Some.ensures.cases.0 c.if-pair-address.false low
+      ∙ c.loop-pair.invariant.same a low;
 }
 
 pub returns-then-pair-address-clause-ascend : goal.returns-then-pair-address-clause-ascend

@@ -1,8 +1,4 @@
-use Rattle.std.proofs.Common.{◌≡◌, ◌+◌, ◌*◌, ℕ, ◌++◌, ◌∷◌, [], ◌∙◌, sym, ap, length, take, arith}
-use Rattle.std.proofs.lemmas.List.{take_all}
-use Rattle.mv_base.specs.declared.range.RunPlace.{RunPlace}
-use Rattle.mv_rewrite.specs.Sites.{addresses}
-use Rattle.mv_rewrite.specs.Layout.{run_places}
+use Rattle.std.proofs.Common.{◌+◌, ◌∙◌, sym, arith}
 use Rattle.mv_rewrite.proofs.RunSites.{apart_ends}
 use Rattle.mv_rewrite.proofs.RunOrder.{length-nil, length_more, length_part, places_step, places_none}
 use Rattle.mv_rewrite.proofs.entries.place_runs.Goals as goal

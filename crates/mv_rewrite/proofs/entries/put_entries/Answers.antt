@@ -1,4 +1,4 @@
-use Rattle.std.proofs.Common.{◌≡◌, ◌+◌, ◌++◌, ◌∙◌, ℕ, List, sym, ap, refl, arith}
+use Rattle.std.proofs.Common.{◌+◌, ◌++◌, ◌∙◌, ℕ, List, sym, ap, refl, arith}
 use Rattle.std.proofs.lemmas.List.{append-nil}
 use Rattle.mv_rewrite.specs.Layout.{entry_in}
 use Rattle.mv_rewrite.proofs.PairWalk.{ascend_weaker, word_more, no_words}

@@ -1,10 +1,8 @@
-use Rattle.std.proofs.Common.{◌≡◌, ℕ, ◌+◌, ◌*◌, ◌<◌, ◌≤◌, ◌++◌, length, map, take, drop}
+use Rattle.std.proofs.Common.{◌≡◌, ℕ, ◌+◌, ◌≤◌, ◌++◌, map}
 use Rattle.std.specs.List.{range_with_len}
 use Rattle.mv_base.specs.Bytes.{words}
-use Rattle.mv_rewrite.specs.Sites.{addresses}
-use Rattle.mv_rewrite.specs.Layout.{entry_in, run_places, table}
+use Rattle.mv_rewrite.specs.Layout.{entry_in}
 use Rattle.mv_rewrite.specs.Lookup.{Ascend}
-use Rattle.mv_rewrite.proofs.RunOrder.{after}
 use Rattle.mv_rewrite.proofs.entries.put_entries.Given as goal
 
 abbrev pub invariant-loop-offset : goal.invariant-loop-offset

@@ -1,6 +1,5 @@
-use Rattle.std.proofs.Common.{◌++◌, ◌∙◌, ap, List, ℕ, arith}
+use Rattle.std.proofs.Common.{◌++◌, ◌∙◌, ap, List, ℕ}
 use Rattle.mv_base.specs.Bytes.{word}
-use Rattle.std.proofs.lemmas.List.{append-nil}
 use Rattle.mv_rewrite.proofs.entries.put_word.Goals as goal
 
 pub returns : goal.returns

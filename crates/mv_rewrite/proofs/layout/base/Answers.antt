@@ -1,5 +1,4 @@
-use Rattle.std.proofs.Common.{Some, IsSome, ap, sym, subst, ◌∙◌, Option, ℕ, arith}
-use Rattle.mv_rewrite.specs.Layout.{base_of}
+use Rattle.std.proofs.Common.{IsSome, sym, subst, ◌∙◌, Option, ℕ, arith}
 use Rattle.mv_rewrite.proofs.ThinLayout.{thin_apart, size_bounds, base_of-thin, base_of_is}
 use Rattle.mv_rewrite.proofs.layout.base.Goals as goal
 

@@ -1,5 +1,4 @@
-use Rattle.std.proofs.Common.{List, ℕ, refl, sym, ap, ◌∙◌, ◌+◌, ◌*◌, length, subst, arith}
-use Rattle.mv_rewrite.specs.Layout.{up, places}
+use Rattle.std.proofs.Common.{List, ℕ, refl, sym, ap, ◌∙◌, ◌+◌, subst, arith}
 use Rattle.mv_rewrite.specs.Lookup.{Ascend, table_move}
 use Rattle.mv_rewrite.proofs.ThinLayout.{lay_facts, room_facts, covered, laid}
 use Rattle.mv_rewrite.proofs.layout.lay_at.Goals as goal

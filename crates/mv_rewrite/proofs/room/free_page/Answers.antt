@@ -1,7 +1,5 @@
-use Rattle.std.proofs.Common.{◌≡◌, ℕ, ◌+◌, ◌*◌, ◌/◌, ◌%◌, ◌<◌, ◌≤◌, min, false, inl, inr, ap, sym, arith}
-use Rattle.std.specs.List.{list_all}
+use Rattle.std.proofs.Common.{◌+◌, ◌/◌, ◌≤◌, inl, inr, arith}
 use Rattle.std.proofs.lemmas.Bool.{cases_lt}
-use Rattle.mv_rewrite.specs.Layout.{is_apart}
 use Rattle.mv_rewrite.proofs.Fit.{free_before, free_after, taken, ended_more, rest_apart}
 use Rattle.mv_rewrite.proofs.room.free_page.Goals as goal
 
@@ -22,9 +20,10 @@ loop-segment-preserved c =
       high = omega arith;
       ended = ended_more c.loop-segment.page new ss k s (omega arith) c.segment-item.is (omega arith) end c.loop-segment.invariant.ended;
       earlier = λ page low below.
-        elim (cases_lt page c.loop-segment.page) [
-          inl l ↦ c.loop-segment.invariant.earlier page low l
-        | inr l ↦ taken ss k s page (page + c.args.pages) (omega arith) c.segment-item.is (omega arith) (omega arith) ];
+          elim (cases_lt page c.loop-segment.page) [
+            | inl l ↦ c.loop-segment.invariant.earlier page low l
+            | inr l ↦ taken ss k s page (page + c.args.pages) (omega arith) c.segment-item.is (omega arith) (omega arith)
+          ];
       rest = rest_apart ss k s (omega arith) c.segment-item.is c.loop-segment.invariant.rest;
     }
 

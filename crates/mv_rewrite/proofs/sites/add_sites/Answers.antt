@@ -11,12 +11,13 @@ pub loop-offset-preserved : goal.loop-offset-preserved
 loop-offset-preserved c =
     let f = site_at (code_of (c.args.run.now ∷ [])) in
     elim c.match-site_in.branch [
-      in-Some+in_ok-push w ↦
-        let pushed : c.match-site_in.found.items ≡ c.loop-offset.found.items ++ w.in-Some.site ∷ [] = cc (w.found-is, w.in_ok-push.ensures.items) in
-        some_more f c.args.run.now.lo c.loop-offset.offset c.match-site_in.found.items c.loop-offset.found.items c.args.found.now.items w.in-Some.site (sym w.in-Some.ensures) c.loop-offset.invariant pushed
-    | in_default w ↦
-        let same : c.match-site_in.found.items ≡ c.loop-offset.found.items = cc (w.found-is) in
-        none_more f c.args.run.now.lo c.loop-offset.offset c.match-site_in.found.items c.args.found.now.items (sym w.in_default.ensures) (same ∙ c.loop-offset.invariant) ]
+      | in-Some+in_ok-push w ↦
+          let pushed : c.match-site_in.found.items ≡ c.loop-offset.found.items ++ w.in-Some.site ∷ [] = cc (w.found-is, w.in_ok-push.ensures.items) in
+          some_more f c.args.run.now.lo c.loop-offset.offset c.match-site_in.found.items c.loop-offset.found.items c.args.found.now.items w.in-Some.site (sym w.in-Some.ensures) c.loop-offset.invariant pushed
+      | in_default w ↦
+          let same : c.match-site_in.found.items ≡ c.loop-offset.found.items = cc (w.found-is) in
+          none_more f c.args.run.now.lo c.loop-offset.offset c.match-site_in.found.items c.args.found.now.items (sym w.in_default.ensures) (same ∙ c.loop-offset.invariant)
+    ]
 
 pub returns : goal.returns
 returns c =

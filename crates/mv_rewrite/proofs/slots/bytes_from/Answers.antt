@@ -1,4 +1,4 @@
-use Rattle.std.proofs.Common.{◌≡◌, List, ℕ, length, take, drop, min, ap, sym, ◌∙◌, arith}
+use Rattle.std.proofs.Common.{◌≡◌, ℕ, length, take, min, ap, sym, ◌∙◌, arith}
 use Rattle.std.proofs.lemmas.List.{take_min, drop_all}
 use Rattle.mv_rewrite.proofs.SlotSteps.{skip_run, run_has, none_left, apart_rest}
 use Rattle.mv_rewrite.proofs.slots.bytes_from.Goals as goal

@@ -1,4 +1,4 @@
-use Rattle.std.proofs.Common.{◌≡◌, ◌∙◌, sym, arith}
+use Rattle.std.proofs.Common.{◌∙◌, sym, arith}
 use Rattle.mv_rewrite.proofs.SlotSteps.{places_none, places_step_at}
 use Rattle.mv_rewrite.proofs.slots.places.Goals as goal
 

@@ -1,4 +1,4 @@
-use Rattle.std.proofs.Common.{◌+◌, ℕ, ap, ◌∙◌, arith}
+use Rattle.std.proofs.Common.{◌+◌, ℕ, ap, ◌∙◌}
 use Rattle.elf32_read.specs.Runs.{code_of}
 use Rattle.mv_rewrite.specs.Lookup.{table_move}
 use Rattle.mv_rewrite.specs.Pieces.{join}

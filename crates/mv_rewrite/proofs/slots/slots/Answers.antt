@@ -1,4 +1,4 @@
-use Rattle.std.proofs.Common.{◌≡◌, ◌∙◌, sym, arith}
+use Rattle.std.proofs.Common.{◌∙◌, sym, arith}
 use Rattle.elf32_read.specs.Runs.{code_of}
 use Rattle.mv_rewrite.specs.Lookup.{table_move}
 use Rattle.mv_rewrite.proofs.SlotSteps.{slots_none, slots_step_at, short_read}
