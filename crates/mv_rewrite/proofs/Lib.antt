@@ -1,3 +1,14 @@
+-- why the code gives what the definitions say
+pub mod PairWalk
+pub mod Fit
+pub mod Fronts
+pub mod RunOrder
+pub mod RunSites
+pub mod SiteList
+pub mod SlotSteps
+pub mod Spellings
+pub mod TableWords
+pub mod ThinLayout
 -- what stands where in an output, and how it loads, lowest first
 pub mod Entries
 pub mod Slots

@@ -5,9 +5,17 @@
 //! the project grows.
 #![tactic(auto)]
 
+mod decoding;
+mod entries;
+mod layout;
+mod pieces;
 pub mod plan;
 pub mod rewriting;
+mod room;
 pub mod site;
+mod sites;
+mod slots;
+mod table;
 
 pub use plan::{Plan, RunPlaces};
 pub use rewriting::{FILE_LIMIT, RewriteFault, Rewritten, rewrite};
