@@ -39,6 +39,7 @@ pub record IsThinHeader (len : ℕ) (h : Phdr) : Type 0 where
   pub low : h.vaddr + h.memsz ≤ 0xFFFFF000
   pub congruent : h.offset % 4096 ≡ h.vaddr % 4096
 
+-- what the test of the ELF header says, field by field
 pub thin_head_facts : (b : List ℕ) → is_thin b ≡ true → IsThinHead b
 unfolding is_thin_head
 thin_head_facts b thin = record {
@@ -53,6 +54,7 @@ thin_head_facts b thin = record {
   header_count_is = grind (arith, nat_tests);
 }
 
+-- what the test of the program header says, field by field
 pub thin_header_facts : (b : List ℕ) → is_thin b ≡ true → IsThinHeader (length b) (header_at b 52)
 unfolding is_thin_header
 thin_header_facts b thin = record {
@@ -156,6 +158,7 @@ pub record IsThinCell (b : List ℕ) (h : Phdr) (a : ℕ) (c : Cell) : Type 0 wh
   pub write_is : c.write ≡ false
   pub exec_is : c.exec ≡ true
 
+-- the same, from the two cases of the address
 IsThinCell-by : (b : List ℕ) (h : Phdr) (a : ℕ) (c : Cell) (inside : Bool) → within h.vaddr h.memsz a ≡ inside
     → (if inside then Some (record { byte = slice_index b (h.offset + (a - h.vaddr)); write = false; exec = true }) else None) ≡ Some c
     → IsThinCell b h a c
@@ -168,6 +171,7 @@ IsThinCell-by b h a c true inside is = record {
 }
 IsThinCell-by b h a c false outside is = cc
 
+-- each cell of such a file is one of these
 pub IsThinCell-from_load : (b : List ℕ) → is_thin b ≡ true → (a : ℕ) (c : Cell) → load b a ≡ Some c → IsThinCell b (header_at b 52) a c
 IsThinCell-from_load b thin a c is =
     IsThinCell-by b (header_at b 52) a c (within (header_at b 52).vaddr (header_at b 52).memsz a) refl (sym (load-thin b thin a) ∙ is)
@@ -185,7 +189,7 @@ IsMemory-load b thin bytes = record {
 }
 
 -- an element of a part of a list
-slice_get-part : (b : List ℕ) (o n k : ℕ) → o + n ≤ length b → k < n → slice_get (take n (drop o b)) k ≡ Some (slice_index b (o + k))
+pub slice_get-part : (b : List ℕ) (o n k : ℕ) → o + n ≤ length b → k < n → slice_get (take n (drop o b)) k ≡ Some (slice_index b (o + k))
 slice_get-part b o n k inside below =
     slice_get-get_or (take n (drop o b)) k 0 (simp (length-take, length-drop) (omega arith))
     ∙ ap (λ x. Some x) (get_or-take n (drop o b) k 0 below ∙ get_or-drop o b k 0)
@@ -194,16 +198,19 @@ slice_get-part b o n k inside below =
 abbrev pub thin_code : List ℕ → Phdr → ℕ → Option ℕ
 thin_code b h a = if within h.vaddr h.memsz a then Some (slice_index b (h.offset + (a - h.vaddr))) else None
 
+-- each cell can be executed
 exec_byte_of-thin_cell : (b : List ℕ) (h : Phdr) (a : ℕ) → exec_byte_of (thin_cell b h a) ≡ thin_code b h a
 exec_byte_of-thin_cell b h a =
     elim (within h.vaddr h.memsz a)
     as (λ t. exec_byte_of (if t then Some (record { byte = slice_index b (h.offset + (a - h.vaddr)); write = false; exec = true }) else None)
-        ≡ (if t then Some (slice_index b (h.offset + (a - h.vaddr))) else None))
+    ≡ (if t then Some (slice_index b (h.offset + (a - h.vaddr))) else None))
     [ true ↦ refl | false ↦ refl ]
 
+-- the executable bytes of the loaded file
 pub exec_byte-load-thin : (b : List ℕ) → is_thin b ≡ true → (a : ℕ) → exec_byte (load b) a ≡ thin_code b (header_at b 52) a
 exec_byte-load-thin b thin a = rw (load-thin b thin a) (exec_byte_of-thin_cell b (header_at b 52) a)
 
+-- the two cases of an address, in the run and in the file
 thin_code-part : (b : List ℕ) (h : Phdr) (a : ℕ) (inside : Bool) → within h.vaddr h.memsz a ≡ inside → IsThinHeader (length b) h
     → (if inside then slice_get (take h.memsz (drop h.offset b)) (a - h.vaddr) else None)
     ≡ (if inside then Some (slice_index b (h.offset + (a - h.vaddr))) else None)
@@ -212,6 +219,7 @@ thin_code-part b h a true inside facts =
     slice_get-part b h.offset h.memsz (a - h.vaddr) (omega arith) (omega arith)
 thin_code-part b h a false outside facts = refl
 
+-- the bytes of the runs
 pub code_of-runs_of-thin : (b : List ℕ) → is_thin b ≡ true → (a : ℕ) → code_of (runs_of b) a ≡ thin_code b (header_at b 52) a
 code_of-runs_of-thin b thin a =
     rw (runs_of-thin b thin, length-thin_run b thin)
@@ -234,9 +242,11 @@ ident-thin b thin =
     let head = thin_head_facts b thin in
     (starts_is Decides-eqb b (0x7F ∷ 0x45 ∷ 0x4C ∷ 0x46 ∷ 1 ∷ 1 ∷ 1 ∷ []) true (sym head.begins)).0 refl
 
+-- the seven bytes begin with the magic
 begins_with_magic : (rest : List ℕ) → has_magic ((0x7F ∷ 0x45 ∷ 0x4C ∷ 0x46 ∷ 1 ∷ 1 ∷ 1 ∷ []) ++ rest) ≡ true
 begins_with_magic rest = refl
 
+-- it begins with the magic
 has_magic-thin : (b : List ℕ) → is_thin b ≡ true → has_magic b ≡ true
 has_magic-thin b thin = ap has_magic (ident-thin b thin) ∙ begins_with_magic (drop 7 b)
 
@@ -273,3 +283,9 @@ refusal-thin b thin =
     let facts = thin_header_facts b thin in
     let small : nat_lt 4194304 (0 + (header_at b 52).memsz) ≡ false = grind (arith, nat_tests) in
     rw (head_fault-thin b thin, headers-thin b thin, header_fault-thin (length b) 0 (header_at b 52) facts, facts.kind_is, segments-thin b thin, head.header_count_is, small)
+
+-- the two laws of the runs
+pub ruleset run_laws = (code_of-runs_of, AreApart-runs_of)
+
+-- the law of the faults
+pub ruleset fault_law = refusal-thin

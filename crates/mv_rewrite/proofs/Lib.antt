@@ -1,5 +1,6 @@
 pub mod Entries
 pub mod Slots
+pub mod HeadBytes
 pub mod Placed
 pub mod Standing
 pub mod Written

@@ -3,6 +3,7 @@ pub mod Sites
 pub mod Pieces
 pub mod Layout
 pub mod File
+pub mod Writing
 pub mod Output
 pub mod Frame
 pub mod Relocated

@@ -5,6 +5,7 @@
 //! the project grows.
 #![tactic(auto)]
 
+mod file;
 pub mod plan;
 pub mod rewriting;
 pub mod site;
