@@ -17,7 +17,7 @@ const IDENT: [u8; 7] = [0x7F, b'E', b'L', b'F', 1, 1, 1];
 const TYPE_AND_MACHINE: [u16; 2] = [2, 3];
 
 /// The kind of a header whose segment is to be loaded (System V gABI, program header).
-const PT_LOAD: u32 = 1;
+pub const PT_LOAD: u32 = 1;
 
 /// The flag of a segment that may be executed (System V gABI, segment flags).
 const PF_X: u32 = 1;
@@ -29,7 +29,7 @@ const PF_R: u32 = 4;
 pub const HEAD_LEN: u32 = 0x1000;
 
 /// How the addresses of a loaded segment are aligned.
-const SEGMENT_ALIGN: u32 = 0x1000;
+pub const SEGMENT_ALIGN: u32 = 0x1000;
 
 /// Appends the ELF header: of an executable for i386, with the input's bytes 7 to 15 and flags, the program
 /// headers right behind it, and no sections (System V gABI, ELF header).
