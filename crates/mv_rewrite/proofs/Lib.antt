@@ -1,6 +1,7 @@
 pub mod Entries
 pub mod Slots
 pub mod HeadBytes
+pub mod RecordRuns
 pub mod Placed
 pub mod Standing
 pub mod Written

@@ -6,6 +6,7 @@ pub mod File
 pub mod Writing
 pub mod Output
 pub mod Frame
+pub mod Framing
 pub mod Relocated
 pub mod Simulation
 pub mod Rewriting

@@ -3,13 +3,14 @@
 //! `part` appends numbers and bytes, `head` the ELF header and the program headers, `block` the frame record
 //! and what is computed for it.
 
-ghost use Rattle.std.specs.Prelude.{◌≡◌, ◌≤◌, ◌++◌, [], length, IfOk, OnOk};
-ghost use Rattle.mv_rewrite.specs.File.{head, file_of, padded, table_of};
+ghost use Rattle.std.specs.Prelude.{◌≡◌, ◌+◌, ◌≤◌, ◌++◌, [], length, IfOk, OnOk};
+ghost use Rattle.mv_rewrite.specs.File.{head, file_of, padded, table_of, code_place};
+ghost use Rattle.mv_rewrite.specs.Layout.{up as up_of};
 ghost use Rattle.mv_rewrite.specs.Writing.{HasHead, EndsLow, front};
 
 mod block;
 mod head;
-mod part;
+pub mod part;
 
 use crate::file::block::{added_headers, put_record, table_len};
 use crate::file::head::{HEAD_LEN, put_all_headers, put_elf_header};
@@ -49,6 +50,7 @@ pub fn write_image(alloc: Global, image: &Image, input: &[u8], plan: &Plan) -> R
 fn file_len(input: &[u8], plan: &Plan) -> usize
     requires input { length input.now ≤ 67108864 }
     requires block { EndsLow plan.now }
+    ensures { result ≡ code_place (length input.now) + up_of (length plan.now.code) + up_of (length (table_of plan.now)) }
 {
     HEAD_LEN as usize + up(input.len()) + up(plan.code.len()) + up(table_len(plan) as usize)
 }

@@ -6,6 +6,7 @@
 #![tactic(auto)]
 
 mod file;
+mod frame;
 pub mod plan;
 pub mod rewriting;
 pub mod site;
