@@ -15,7 +15,7 @@ use Rattle.mv_rewrite.specs.Pieces.{successor, jump_bytes, piece_of}
 use Rattle.mv_rewrite.specs.Frame.{Frame, frame_map}
 use Rattle.mv_rewrite.specs.Relocated.{StandAt, IsRelocated}
 use Rattle.mv_rewrite.specs.Simulation.{effects_by_flow, IsClearEffect, IsClearOutcome}
-use Rattle.mv_rewrite.proofs.Decoding.{IsFound, is_found, found_len, found_copied}
+use Rattle.mv_rewrite.proofs.DecodedAlike.{IsFound, is_found, found_len, found_copied}
 use Rattle.mv_rewrite.proofs.Cells.{exec_cell_byte}
 use Rattle.mv_rewrite.proofs.Likeness.{Alike}
 use Rattle.mv_rewrite.proofs.Copied.{StatesAlike, OutcomeAlike, IsCopied, executed_alike}

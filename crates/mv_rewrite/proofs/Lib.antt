@@ -10,8 +10,10 @@ pub mod Spellings
 pub mod TableWords
 pub mod ThinLayout
 -- what stands where in an output, and how it loads, lowest first
-pub mod Entries
-pub mod Slots
+pub mod EntryWords
+pub mod SlotPlaces
+pub mod HeadBytes
+pub mod RecordRuns
 pub mod Placed
 pub mod Parts
 pub mod Written
@@ -22,14 +24,14 @@ pub mod Planned
 pub mod Recorded
 pub mod Relocating
 -- why the run of a relocated output follows the run of its input, lowest first
-pub mod Decoding
+pub mod DecodedAlike
 pub mod NearJump
 pub mod Cells
 pub mod Bounded
 pub mod Likeness
 pub mod EffectsAlike
 pub mod Copied
-pub mod Table
+pub mod StepTable
 pub mod Standing
 pub mod Sound
 pub mod AtSite

@@ -7,7 +7,7 @@ use Rattle.x86_insn.specs.declared.insn.Insn.TheVariants.{Jump}
 use Rattle.x86_insn.specs.Spelling.{spelled, first_spelled, decoded}
 use Rattle.x86_insn.specs.Step.{Found, fetch_in}
 use Rattle.mv_rewrite.specs.Pieces.{jump_bytes}
-use Rattle.mv_rewrite.proofs.Decoding.{decoded_alike, bytes_stand, from_found}
+use Rattle.mv_rewrite.proofs.DecodedAlike.{decoded_alike, bytes_stand, from_found}
 
 -- E9 and four bytes
 jump_spelled : (a b c d : ℕ) → decoded (0xE9 ∷ a ∷ b ∷ c ∷ d ∷ []) ≡ Some (Jump (number (a ∷ b ∷ c ∷ d ∷ [])), 5)

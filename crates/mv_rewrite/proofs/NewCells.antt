@@ -12,7 +12,7 @@ use Rattle.elf32_read.specs.Load.{segment_cell, load_in, load}
 use Rattle.mv_rewrite.specs.Layout.{up}
 use Rattle.mv_rewrite.specs.File.{kept_header, with_added}
 use Rattle.mv_rewrite.specs.Relocated.{idle_cell, without_exec}
-use Rattle.mv_rewrite.proofs.Entries.{within_parts}
+use Rattle.mv_rewrite.proofs.EntryWords.{within_parts}
 use Rattle.mv_rewrite.proofs.Parts.{Stands}
 use Rattle.mv_rewrite.proofs.Fine.{IsLoaded, IsFine, IsKept, is_kept, kept_load, moved_offset}
 use Rattle.mv_rewrite.proofs.NewHeaders.{Block, IsBlock, block_size, code_of_block, table_of_block, private_of_block, block_headers, AreApart, fine_parts}

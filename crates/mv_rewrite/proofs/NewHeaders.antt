@@ -13,7 +13,7 @@ use Rattle.elf32_read.specs.Load.{segment_cell, load_in, load}
 use Rattle.mv_rewrite.specs.Layout.{up, is_apart}
 use Rattle.mv_rewrite.specs.File.{head_len, kept_header, added_header, with_added}
 use Rattle.mv_rewrite.specs.Relocated.{idle_cell, without_exec}
-use Rattle.mv_rewrite.proofs.Entries.{within_parts}
+use Rattle.mv_rewrite.proofs.EntryWords.{within_parts}
 use Rattle.mv_rewrite.proofs.Parts.{Stands, IsHeader}
 use Rattle.mv_rewrite.proofs.Fine.{neither, IsLoaded, IsMapped, IsFine, fine_is, fine_none, fine_more, IsKept, is_kept, kept_load, kept_maps, kept_fine, moved_offset}
 

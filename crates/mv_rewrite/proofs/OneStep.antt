@@ -21,7 +21,7 @@ use Rattle.mv_rewrite.specs.Stopping.{ShowsSame}
 use Rattle.mv_rewrite.proofs.Likeness.{Alike}
 use Rattle.mv_rewrite.proofs.Copied.{StatesAlike, IsCopied}
 use Rattle.mv_rewrite.proofs.NearJump.{jump_len}
-use Rattle.mv_rewrite.proofs.Table.{is_jump, trap_stops, other_stops, is_direct, jump_steps}
+use Rattle.mv_rewrite.proofs.StepTable.{is_jump, trap_stops, other_stops, is_direct, jump_steps}
 use Rattle.mv_rewrite.proofs.Standing.{stand_front, stand_back, stand_low, jump_step}
 use Rattle.mv_rewrite.proofs.Sound.{IsSound, alike_of, answers_left}
 use Rattle.mv_rewrite.proofs.AtSite.{copy_bytes, AtSite, MeetsAt, copy_len, slot_stands, copied_alike}

@@ -11,7 +11,7 @@ use Rattle.elf32_read.specs.declared.image.Phdr.{Phdr}
 use Rattle.elf32_read.specs.Fields.{header_at}
 use Rattle.mv_rewrite.specs.Pieces.{filled}
 use Rattle.mv_rewrite.specs.File.{header_words}
-use Rattle.mv_rewrite.proofs.Entries.{length-words, word_at-words}
+use Rattle.mv_rewrite.proofs.EntryWords.{length-words, word_at-words}
 
 -- a part stands at a place of a list
 pub record Stands (x : List ℕ) (p : ℕ) (part : List ℕ) : Type 0 where

@@ -17,8 +17,8 @@ use Rattle.mv_rewrite.specs.Pieces.{piece, with_join, filled, slot_len, slot, sl
 use Rattle.mv_rewrite.specs.Layout.{up, entry_in, moved, places, table, run_places, code_len, table_len, private_len, size, pairs_at, plan_at}
 use Rattle.mv_rewrite.specs.Frame.{Frame, frame_map, frame_entry, frame_table, is_added, is_private}
 use Rattle.mv_rewrite.specs.Relocated.{StandAt, PieceAt}
-use Rattle.mv_rewrite.proofs.Entries.{entry_where, flat_in}
-use Rattle.mv_rewrite.proofs.Slots.{IsSiteAt, is_site_at, length-with_join, HasSlot, has_slot, no_entry, length-slots, entry_in-le, IsAmong, address_among}
+use Rattle.mv_rewrite.proofs.EntryWords.{entry_where, flat_in}
+use Rattle.mv_rewrite.proofs.SlotPlaces.{IsSiteAt, is_site_at, length-with_join, HasSlot, has_slot, no_entry, length-slots, entry_in-le, IsAmong, address_among}
 
 -- the plan's code and table are loaded where the frame says
 pub record IsPlaced (b : List ℕ) (base : ℕ) (x : List ℕ) (f : Frame) : Type 0 where

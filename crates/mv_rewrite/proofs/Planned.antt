@@ -24,8 +24,8 @@ use Rattle.mv_rewrite.specs.declared.plan.Plan.{Plan}
 use Rattle.mv_rewrite.specs.Sites.{code_in, addresses, run_addresses, sites, sites_in}
 use Rattle.mv_rewrite.specs.Layout.{up, moved, entry_in, is_apart, has_room, lowest, first_fit, base_of, size, code_len, table_len, private_len, pairs_at, run_places, table, plan_at}
 use Rattle.mv_rewrite.specs.File.{head_len, code_place, table_of, kept_header, added_header, added_headers, with_added, new_headers, file_of}
-use Rattle.mv_rewrite.proofs.Entries.{length-words}
-use Rattle.mv_rewrite.proofs.Slots.{length-slots, entry_in-le}
+use Rattle.mv_rewrite.proofs.EntryWords.{length-words}
+use Rattle.mv_rewrite.proofs.SlotPlaces.{length-slots, entry_in-le}
 use Rattle.mv_rewrite.proofs.Parts.{IsHeader}
 use Rattle.mv_rewrite.proofs.Written.{IsWritable, IsWritten, written}
 use Rattle.mv_rewrite.proofs.Fine.{passed, neither, IsKept, is_kept}

@@ -16,7 +16,7 @@ use Rattle.mv_rewrite.specs.Sites.{addresses}
 use Rattle.mv_rewrite.specs.Layout.{up, code_len, table_len, private_len, size, base_of, run_places, plan_at}
 use Rattle.mv_rewrite.specs.File.{head_len, code_place, table_of, record_words, place_words, frame_magic, file_of}
 use Rattle.mv_rewrite.specs.Frame.{Frame, field, run_place_at, frame_at, has_record, has_places, has_block, has_runs, has_size, keeps_rules, frame, frame_table}
-use Rattle.mv_rewrite.proofs.Entries.{length-words}
+use Rattle.mv_rewrite.proofs.EntryWords.{length-words}
 use Rattle.mv_rewrite.proofs.Parts.{Stands, stands_first, stands_second, word_in, words-append}
 use Rattle.mv_rewrite.proofs.Written.{IsWritten}
 use Rattle.mv_rewrite.proofs.NewHeaders.{Block}

@@ -11,7 +11,7 @@ use Rattle.mv_rewrite.specs.Layout.{up, code_len, table_len, size, plan_at}
 use Rattle.mv_rewrite.specs.File.{kept_header, with_added, file_of}
 use Rattle.mv_rewrite.specs.Frame.{Frame, frame_map, is_added, is_private}
 use Rattle.mv_rewrite.specs.Relocated.{IsRelocated, without_exec}
-use Rattle.mv_rewrite.proofs.Entries.{within_parts}
+use Rattle.mv_rewrite.proofs.EntryWords.{within_parts}
 use Rattle.mv_rewrite.proofs.Written.{IsWritten}
 use Rattle.mv_rewrite.proofs.Placed.{IsPlaced, map_is, others, mapped, pieces}
 use Rattle.mv_rewrite.proofs.Fine.{IsMapped, IsFine}

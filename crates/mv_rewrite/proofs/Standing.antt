@@ -12,7 +12,7 @@ use Rattle.mv_rewrite.specs.Frame.{Frame, is_added, is_private}
 use Rattle.mv_rewrite.specs.Relocated.{StandAt, IsRelocated}
 use Rattle.mv_rewrite.proofs.Likeness.{added_low}
 use Rattle.mv_rewrite.proofs.NearJump.{reach, jump_len, jump_found, jump_goes}
-use Rattle.mv_rewrite.proofs.Table.{jump_steps}
+use Rattle.mv_rewrite.proofs.StepTable.{jump_steps}
 
 -- the block of a state's memory is the output's file but for the private area
 abbrev pub IsKept : List ℕ → Frame → State → Type 0

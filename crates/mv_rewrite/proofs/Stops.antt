@@ -17,9 +17,9 @@ use Rattle.mv_rewrite.specs.Relocated.{IsRelocated}
 use Rattle.mv_rewrite.specs.Simulation.{effects_of, effects_by_flow, IsClearEffect, IsClearStop, IsClearOutcome, IsClearStep, Agree}
 use Rattle.mv_rewrite.proofs.Cells.{may_execute}
 use Rattle.mv_rewrite.proofs.Likeness.{Alike}
-use Rattle.mv_rewrite.proofs.Decoding.{decoded_spelled}
+use Rattle.mv_rewrite.proofs.DecodedAlike.{decoded_spelled}
 use Rattle.mv_rewrite.proofs.Copied.{StatesAlike}
-use Rattle.mv_rewrite.proofs.Table.{is_direct, jump_steps}
+use Rattle.mv_rewrite.proofs.StepTable.{is_direct, jump_steps}
 use Rattle.mv_rewrite.proofs.Sound.{IsSound, alike_of}
 use Rattle.mv_rewrite.proofs.AtSite.{AtSite, MeetsAt, code_same, site_found_in, slot_stands, copied_alike}
 use Rattle.mv_rewrite.proofs.OneStep.{stopped_next}

@@ -16,7 +16,7 @@ use Rattle.mv_rewrite.specs.declared.plan.Plan.{Plan}
 use Rattle.mv_rewrite.specs.Pieces.{filled}
 use Rattle.mv_rewrite.specs.Layout.{up}
 use Rattle.mv_rewrite.specs.File.{padded, table_of, code_place, new_headers, header_words, elf_header, record_words, place_words, head, file_of}
-use Rattle.mv_rewrite.proofs.Entries.{length-words}
+use Rattle.mv_rewrite.proofs.EntryWords.{length-words}
 use Rattle.mv_rewrite.proofs.Parts.{Stands, stands_whole, stands_left, stands_right, stands_in, stands_first, stands_second, word_alike, half_alike, IsHeader, headers_in, words-append, stands_filled, length-filled}
 
 -- what a plan has to keep so that its file can be read again

@@ -7,6 +7,8 @@
 
 mod decoding;
 mod entries;
+mod file;
+mod frame;
 mod layout;
 mod pieces;
 pub mod plan;

@@ -22,7 +22,7 @@ use Rattle.mv_rewrite.specs.declared.site.Site.{Site}
 use Rattle.mv_rewrite.specs.Sites.{addresses, run_addresses, site_found, site_at, sites_in}
 use Rattle.mv_rewrite.specs.Pieces.{jump_bytes, target, successor, piece_of, piece, join, with_join, filled, slot_len, slot, slots}
 use Rattle.mv_rewrite.specs.Layout.{entry_in, places, run_places, table}
-use Rattle.mv_rewrite.proofs.Entries.{within_parts, code_within, code_beyond, entry_where, flat_in}
+use Rattle.mv_rewrite.proofs.EntryWords.{within_parts, code_within, code_beyond, entry_where, flat_in}
 
 -- ---- lengths
 

@@ -1,0 +1,4 @@
+//! The frame of a file: what its record says was added to what.
+
+mod fields;
+mod rules;
