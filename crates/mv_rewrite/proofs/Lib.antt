@@ -40,3 +40,4 @@ pub mod Stops
 pub mod Paces
 pub mod Simulating
 pub mod Outputs
+pub mod Assembled

@@ -119,7 +119,7 @@ base_by : (o : Option ℕ) (base : ℕ) → option_map page_base o ≡ Some base
 base_by None base e = absurd (none-some base e)
 base_by (Some page) base e = (page, refl, sym (same_Some (page_base page) base e))
 
-has_room_at : (b : List ℕ) (base : ℕ) → base_of b ≡ Some base → HasRoom (segments b) (size b) base
+pub has_room_at : (b : List ℕ) (base : ℕ) → base_of b ≡ Some base → HasRoom (segments b) (size b) base
 unfolding base_of first_fit has_room
 has_room_at b base e =
     let test = has_room (segments b) (size b) in

@@ -55,7 +55,7 @@ thin_count b thin =
 thin_code : (b : List ℕ) → is_thin b ≡ true → code_in b ≡ code_of (runs_of b)
 thin_code b thin = same_code (code_in b) (code_of (runs_of b)) (code_of-runs_of b thin)
 
-thin_sites : (b : List ℕ) → is_thin b ≡ true → sites b ≡ sites_in (code_of (runs_of b)) (runs_of b)
+pub thin_sites : (b : List ℕ) → is_thin b ≡ true → sites b ≡ sites_in (code_of (runs_of b)) (runs_of b)
 unfolding sites
 thin_sites b thin = ap (λ (c : ℕ → Option ℕ). sites_in c (runs_of b)) (thin_code b thin)
 

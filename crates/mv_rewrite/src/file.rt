@@ -12,6 +12,7 @@ mod block;
 mod head;
 pub mod part;
 
+pub use crate::file::block::added_len;
 use crate::file::block::{added_headers, put_record, table_len};
 use crate::file::head::{HEAD_LEN, put_all_headers, put_elf_header};
 use crate::file::part::{put_padded, put_words, put_zeros, up};

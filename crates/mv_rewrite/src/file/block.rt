@@ -65,9 +65,9 @@ fn private_len(plan: &Plan) -> u32
     PRIVATE_LEN + 8 * plan.counted.len() as u32
 }
 
-/// How many bytes the whole block has, a multiple of 4,096.
+/// How many bytes the whole block of a plan has, a multiple of 4,096.
 #[tactic(auto, using(crate::proofs::HeadBytes::length_table))]
-fn added_len(plan: &Plan) -> u32
+pub fn added_len(plan: &Plan) -> u32
     requires { EndsLow plan.now }
     ensures { result ≡ len_of_block plan.now }
 {
