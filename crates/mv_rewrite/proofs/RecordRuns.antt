@@ -39,7 +39,7 @@ rule_first x n e = ap (has_runs (frame_at x) 0) (from_first x n e)
 
 rule_step : (x : List ℕ) (from i n : ℕ) → i < n
     → has_runs (frame_at x) from (runs_from x i n)
-      ≡ (is_run (field x 8) (field x 14) from (run_place_at x i) && has_runs (frame_at x) ((run_place_at x i).lo + (run_place_at x i).len + 1) (runs_from x (i + 1) n))
+    ≡ (is_run (field x 8) (field x 14) from (run_place_at x i) && has_runs (frame_at x) ((run_place_at x i).lo + (run_place_at x i).len + 1) (runs_from x (i + 1) n))
 unfolding has_runs frame_at
 rule_step x from i n lt = ap (λ (rs : List RunPlace). has_runs (frame_at x) from rs) (from_next x i n lt)
 

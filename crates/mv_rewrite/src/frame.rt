@@ -9,12 +9,14 @@ ghost use Rattle.mv_rewrite.specs.Frame.{field as field_of, frame, frame_at, fra
 
 mod fields;
 mod rules;
+#[cfg(test)]
+mod tests;
 
-use crate::frame::fields::{
-    ADDED_LEN, ADDED_LO, CODE_LEN, CODE_LO, COUNTER_COUNT, FIRST_COUNTER, HEAD_LEN, INPUT_LEN, LIST, PRIVATE_LO,
-    RUN_COUNT, TABLE_LEN, TABLE_LO, field, part, run_place, word,
-};
 use crate::file::part::up;
+use crate::frame::fields::{
+    ADDED_LEN, ADDED_LO, CODE_LEN, CODE_LO, COUNTER_COUNT, FIRST_COUNTER, HEAD_LEN, INPUT_LEN,
+    LIST, PRIVATE_LO, RUN_COUNT, TABLE_LEN, TABLE_LO, field, part, run_place, word,
+};
 use crate::frame::rules::{has_block, has_places, has_record, has_runs, has_size};
 use mv_base::{Range, RunPlace};
 use std::marker::Model;
@@ -167,7 +169,8 @@ impl Frame<'_> {
         let Some(found) = self.run_of(address) else {
             return 0;
         };
-        let place = (found.dir - field(self.file, TABLE_LO)) as usize + 4 * (address - found.lo) as usize;
+        let place = (found.dir - field(self.file, TABLE_LO)) as usize
+            + 4 * (address - found.lo) as usize;
         word(self.table_and_list(), place)
     }
 

@@ -9,12 +9,12 @@ loop-index-init c = search_first c.args.file.now c.args.address c.field-index-en
 pub returns-then-is_in_run : goal.returns-then-is_in_run
 returns-then-is_in_run c =
     search_hits c.args.file.now c.args.address c.loop-index.index c.field-index-end.result _ c.run_place-run.result (omega arith) c.loop-index.invariant c.run_place-run.ensures
-      (sym c.is_in_run.ensures ∙ c.if-is_in_run.true)
+    (sym c.is_in_run.ensures ∙ c.if-is_in_run.true)
 
 pub loop-index-preserved : goal.loop-index-preserved
 loop-index-preserved c =
     search_misses c.args.file.now c.args.address c.loop-index.index c.field-index-end.result _ c.run_place-run.result (omega arith) c.loop-index.invariant c.run_place-run.ensures
-      (sym c.is_in_run.ensures ∙ c.if-is_in_run.false)
+    (sym c.is_in_run.ensures ∙ c.if-is_in_run.false)
 
 pub returns : goal.returns
 returns c = search_end c.args.file.now c.args.address c.loop-index.index c.field-index-end.result _ (omega arith) c.loop-index.invariant
