@@ -31,7 +31,7 @@ kept_flags f fits =
 -- where headers are added
 added_step : (t : Bool) (n : ℕ) (h : Phdr) (hs added rest : List Phdr) → rest ≡ map kept_header (take n hs) ++ added ++ map kept_header (drop n hs)
     → cond t (added ++ map kept_header (h ∷ hs)) (kept_header h ∷ rest)
-      ≡ map kept_header (take (cond (not t) (1 + n) 0) (h ∷ hs)) ++ added ++ map kept_header (drop (cond (not t) (1 + n) 0) (h ∷ hs))
+    ≡ map kept_header (take (cond (not t) (1 + n) 0) (h ∷ hs)) ++ added ++ map kept_header (drop (cond (not t) (1 + n) 0) (h ∷ hs))
 added_step true n h hs added rest e = refl
 added_step false n h hs added rest e =
     let one : 1 + n ≡ suc n = omega arith in
@@ -70,7 +70,7 @@ pub one_more : {X : Type 0} (f : X → List ℕ) (old now next : List ℕ) (xs :
     → ws ≡ f (get_or xs i d) → next ≡ now ++ words ws → next ≡ old ++ spelled f (take (i + 1) xs)
 one_more f old now next xs i d ws lt before are after =
     let more : spelled f (take (i + 1) xs) ≡ spelled f (take i xs) ++ words (f (get_or xs i d)) =
-        ap (spelled f) (take_more xs i d lt) ∙ spelled_more f (take i xs) (get_or xs i d) in
+    ap (spelled f) (take_more xs i d lt) ∙ spelled_more f (take i xs) (get_or xs i d) in
     after ∙ (ap (λ (l : List ℕ). l ++ words ws) before ∙ (append_assoc old (spelled f (take i xs)) (words ws)
     ∙ ap (λ (l : List ℕ). old ++ l) (ap (λ (l : List ℕ). spelled f (take i xs) ++ words l) are ∙ sym more)))
 
@@ -103,9 +103,9 @@ header_parts base added hs k old t1 t2 t3 at e1 e2 e3 =
     let front = map kept_header (take k hs) in
     let back = map kept_header (drop k hs) in
     let all : with_added base added hs ≡ front ++ added ++ back =
-        with_added_at base added hs ∙ ap (λ n. map kept_header (take n hs) ++ added ++ map kept_header (drop n hs)) (sym at) in
+    with_added_at base added hs ∙ ap (λ n. map kept_header (take n hs) ++ added ++ map kept_header (drop n hs)) (sym at) in
     let bytes : spelled header_words (with_added base added hs) ≡ spelled header_words front ++ spelled header_words added ++ spelled header_words back =
-        ap (spelled header_words) all ∙ (spelled-append header_words (front ++ added) back ∙ ap (λ (l : List ℕ). l ++ spelled header_words back) (spelled-append header_words front added)) in
+    ap (spelled header_words) all ∙ (spelled-append header_words (front ++ added) back ∙ ap (λ (l : List ℕ). l ++ spelled header_words back) (spelled-append header_words front added)) in
     let rest : take (length hs - k) (drop k hs) ≡ drop k hs = take_all (length hs - k) (drop k hs) (omega (arith, length-drop k hs)) in
     e3 ∙ (ap (λ (l : List Phdr). t2 ++ spelled header_words (map kept_header l)) rest ∙ (ap (λ (l : List ℕ). l ++ spelled header_words back) (e2 ∙ ap (λ (l : List ℕ). l ++ spelled header_words added) e1)
     ∙ (ap (λ (l : List ℕ). l ++ spelled header_words back) (append_assoc old (spelled header_words front) (spelled header_words added))
@@ -174,7 +174,7 @@ pub head_parts : (b : List ℕ) (p : Plan) (m n : ℕ) (t1 t2 t3 t4 : List ℕ) 
 unfolding head
 head_parts b p m n t1 t2 t3 t4 e1 em e2 e3 en e4 =
     let inner : t3 ≡ filled record_place (front b p) ++ words (record_words (length b) p) =
-        e3 ∙ ap (λ (l : List ℕ). l ++ words (record_words (length b) p)) (e2 ∙ (ap (λ k. t1 ++ replicate (2304 - k) 0) em ∙ ap (filled record_place) e1)) in
+    e3 ∙ ap (λ (l : List ℕ). l ++ words (record_words (length b) p)) (e2 ∙ (ap (λ k. t1 ++ replicate (2304 - k) 0) em ∙ ap (filled record_place) e1)) in
     e4 ∙ (ap (λ k. t3 ++ replicate (4096 - k) 0) en ∙ ap (filled head_len) inner)
 
 pub front_fits : (b : List ℕ) (p : Plan) (image : Image) (m : ℕ) (t : List ℕ) → HasHead b image → length image.headers ≤ 61 → t ≡ front b p → m ≡ length t → m ≤ 2304
@@ -184,8 +184,19 @@ front_fits b p image m t has few e em =
 pub record_fits : (input_len : ℕ) (p : Plan) (m n : ℕ) (t1 t2 t3 : List ℕ) → length p.runs ≤ 64 → m ≤ 2304 → m ≡ length t1 → t2 ≡ t1 ++ replicate (2304 - m) 0
     → t3 ≡ t2 ++ words (record_words input_len p) → n ≡ length t3 → n ≤ 4096
 record_fits input_len p m n t1 t2 t3 few le em e2 e3 en =
-    omega (arith, few, le, em, en, ap (λ (l : List ℕ). length l) e2, ap (λ (l : List ℕ). length l) e3, length_record input_len p,
-      length-append t1 (replicate (2304 - m) 0), length-replicate {A = ℕ} (2304 - m) 0, length-append t2 (words (record_words input_len p)))
+    omega (
+      arith,
+      few,
+      le,
+      em,
+      en,
+      ap (λ (l : List ℕ). length l) e2,
+      ap (λ (l : List ℕ). length l) e3,
+      length_record input_len p,
+      length-append t1 (replicate (2304 - m) 0),
+      length-replicate {A = ℕ} (2304 - m) 0,
+      length-append t2 (words (record_words input_len p)),
+    )
 
 -- the ELF header and the program headers, part by part
 pub front_parts : (b : List ℕ) (p : Plan) (image : Image) (count : ℕ) (t0 t1 t2 : List ℕ) (added hs : List Phdr) → HasHead b image → count ≡ length image.headers + 3 → t0 ≡ []
@@ -194,7 +205,7 @@ pub front_parts : (b : List ℕ) (p : Plan) (image : Image) (count : ℕ) (t0 t1
 front_parts b p image count t0 t1 t2 added hs has counts empty e1 ea eh e2 =
     let number : count ≡ length (new_headers b p) = omega (arith, counts, count_headers b p image.headers has.headers_are) in
     let elf : t1 ≡ elf_header b p.entry (length (new_headers b p)) =
-        e1 ∙ (ap (λ (l : List ℕ). l ++ header_bytes image.ident image.e_flags p.entry count) empty ∙ (header_is b image p.entry count has ∙ ap (elf_header b p.entry) number)) in
+    e1 ∙ (ap (λ (l : List ℕ). l ++ header_bytes image.ident image.e_flags p.entry count) empty ∙ (header_is b image p.entry count has ∙ ap (elf_header b p.entry) number)) in
     e2 ∙ (ap (λ (l : List ℕ). l ++ words (flat_map header_words (with_added p.base added hs))) elf
     ∙ ap (λ (l : List Phdr). elf_header b p.entry (length (new_headers b p)) ++ words (flat_map header_words l))
-      (ap (λ (l : List Phdr). with_added p.base l hs) ea ∙ ap (with_added p.base (added_headers (length b) p)) (eh ∙ has.headers_are)))
+    (ap (λ (l : List Phdr). with_added p.base l hs) ea ∙ ap (with_added p.base (added_headers (length b) p)) (eh ∙ has.headers_are)))

@@ -31,7 +31,12 @@ const RECORD_PLACE: usize = 0x900;
 ///
 /// `NoMemory` where memory for the file is wanted.
 #[tactic(auto, unfolding(crate::specs::File::file_of))]
-pub fn write_image(alloc: Global, image: &Image, input: &[u8], plan: &Plan) -> Result<Vec<u8>, NoMemory>
+pub fn write_image(
+    alloc: Global,
+    image: &Image,
+    input: &[u8],
+    plan: &Plan,
+) -> Result<Vec<u8>, NoMemory>
     requires image { HasHead input.now image.now }
     requires headers { length image.now.headers ≤ 61 }
     requires input { length input.now ≤ 67108864 }

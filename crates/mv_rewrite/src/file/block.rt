@@ -26,7 +26,9 @@ const PRIVATE_LEN: u32 = 64;
 
 /// The flags of a segment that can be read and executed, only read, and read and written.
 const READ_EXECUTE: u32 = 5;
+
 const READ: u32 = 4;
+
 const READ_WRITE: u32 = 6;
 
 /// How many bytes the table has together with the list of counted sites.
@@ -113,7 +115,13 @@ pub fn added_headers(input_len: u32, plan: &Plan) -> [Phdr; 3]
     [
         added_header(code_place, plan.base, code_len, code_len, READ_EXECUTE),
         added_header(table_place, table_lo(plan), table_len, table_len, READ),
-        added_header(private_place, private_lo(plan), 0, private_len(plan), READ_WRITE),
+        added_header(
+            private_place,
+            private_lo(plan),
+            0,
+            private_len(plan),
+            READ_WRITE,
+        ),
     ]
 }
 

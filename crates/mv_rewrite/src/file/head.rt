@@ -34,7 +34,12 @@ pub const SEGMENT_ALIGN: u32 = 0x1000;
 /// Appends the ELF header: of an executable for i386, with the input's bytes 7 to 15 and flags, the program
 /// headers right behind it, and no sections (System V gABI, ELF header).
 #[tactic(auto, unfolding(mv_base::specs::Bytes::words, mv_base::specs::Bytes::half))]
-pub fn put_elf_header(image: &Image, entry: u32, count: u16, to: &mut Vec<u8>) -> Result<(), NoMemory>
+pub fn put_elf_header(
+    image: &Image,
+    entry: u32,
+    count: u16,
+    to: &mut Vec<u8>,
+) -> Result<(), NoMemory>
     ensures { OnOk result (to.new.items ≡ to.old.items ++ header_bytes image.now.ident image.now.e_flags entry count) }
 {
     to.extend_from_slice(&IDENT)?;
@@ -126,7 +131,12 @@ fn added_place(base: u32, headers: &[Phdr]) -> usize
 }
 
 /// Appends the program headers of the output: the input's, and those that are added among them.
-pub fn put_all_headers(base: u32, added: &[Phdr], headers: &[Phdr], to: &mut Vec<u8>) -> Result<(), NoMemory>
+pub fn put_all_headers(
+    base: u32,
+    added: &[Phdr],
+    headers: &[Phdr],
+    to: &mut Vec<u8>,
+) -> Result<(), NoMemory>
     ensures { OnOk result (to.new.items ≡ to.old.items ++ words (flat_map words_of_header (with_added base added.now headers.now))) }
 {
     let place = added_place(base, headers);

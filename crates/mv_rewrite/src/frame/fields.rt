@@ -15,20 +15,35 @@ const RECORD_PLACE: usize = 0x900;
 
 /// The words of a record, by number; the lengths are in bytes and the others are addresses or counts.
 pub const MAGIC: usize = 0;
+
 pub const VERSION: usize = 1;
+
 pub const FORM: usize = 2;
+
 pub const INPUT_LEN: usize = 3;
+
 pub const ADDED_LO: usize = 4;
+
 pub const ADDED_LEN: usize = 5;
+
 pub const CODE_LO: usize = 6;
+
 pub const CODE_LEN: usize = 7;
+
 pub const TABLE_LO: usize = 8;
+
 pub const TABLE_LEN: usize = 9;
+
 pub const PRIVATE_LO: usize = 10;
+
 pub const PRIVATE_LEN: usize = 11;
+
 pub const FIRST_COUNTER: usize = 12;
+
 pub const COUNTER_COUNT: usize = 13;
+
 pub const LIST: usize = 14;
+
 pub const RUN_COUNT: usize = 15;
 
 /// How many words stand before those of the runs.

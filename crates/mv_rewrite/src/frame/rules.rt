@@ -6,8 +6,9 @@ ghost use Rattle.mv_rewrite.specs.Framing.{is_run as is_run_of};
 
 use crate::file::part::up;
 use crate::frame::fields::{
-    ADDED_LEN, ADDED_LO, CODE_LEN, CODE_LO, COUNTER_COUNT, FIRST_COUNTER, FORM, HEAD_LEN, INPUT_LEN, LIST, MAGIC,
-    PRIVATE_LEN, PRIVATE_LO, RUN_COUNT, TABLE_LEN, TABLE_LO, VERSION, field, run_place,
+    ADDED_LEN, ADDED_LO, CODE_LEN, CODE_LO, COUNTER_COUNT, FIRST_COUNTER, FORM, HEAD_LEN,
+    INPUT_LEN, LIST, MAGIC, PRIVATE_LEN, PRIVATE_LO, RUN_COUNT, TABLE_LEN, TABLE_LO, VERSION,
+    field, run_place,
 };
 use mv_base::RunPlace;
 
@@ -92,7 +93,9 @@ pub fn has_places(file: &[u8]) -> bool
     if list_len > field(file, TABLE_LEN) as usize {
         return false;
     }
-    if field(file, LIST) as usize != field(file, TABLE_LO) as usize + (field(file, TABLE_LEN) as usize - list_len) {
+    if field(file, LIST) as usize
+        != field(file, TABLE_LO) as usize + (field(file, TABLE_LEN) as usize - list_len)
+    {
         return false;
     }
     field(file, ADDED_LEN) as usize == code_end + table_end + up(PRIVATE_SIZE + 2 * list_len)

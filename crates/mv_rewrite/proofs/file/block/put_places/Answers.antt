@@ -10,7 +10,7 @@ loop-place-init c = none_yet place_words c.args.to.now.items
 pub loop-place-preserved : goal.loop-place-preserved
 loop-place-preserved c =
     one_more place_words c.args.to.now.items c.loop-place.to.items c.put_words.new.to.items c.args.places.now c.loop-place.place-index _ _
-      (omega arith) c.loop-place.invariant refl c.in_ok-put_words.ensures
+    (omega arith) c.loop-place.invariant refl c.in_ok-put_words.ensures
 
 pub returns : goal.returns
 returns c = all_done place_words c.args.to.now.items c.loop-place.to.items c.args.places.now c.loop-place.place-index (omega arith) c.loop-place.invariant

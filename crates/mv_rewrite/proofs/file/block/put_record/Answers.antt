@@ -9,5 +9,5 @@ use Rattle.mv_rewrite.proofs.file.block.put_record.Goals as goal
 pub returns : goal.returns
 returns c =
     record_parts c.args.input_len c.args.plan.now c.args.to.now.items c.put_words.new.to.items c.put_places.new.to.items
-      (c.in_ok-put_words.ensures ∙ ap (λ (l : List ℕ). c.args.to.now.items ++ words l) c.record_words.ensures)
-      (c.in_ok-put_places.ensures ∙ ap (λ (l : List RunPlace). c.put_words.new.to.items ++ words (flat_map place_words l)) c.as_slice.ensures)
+    (c.in_ok-put_words.ensures ∙ ap (λ (l : List ℕ). c.args.to.now.items ++ words l) c.record_words.ensures)
+    (c.in_ok-put_places.ensures ∙ ap (λ (l : List RunPlace). c.put_words.new.to.items ++ words (flat_map place_words l)) c.as_slice.ensures)

@@ -10,7 +10,7 @@ loop-header-init c = none_yet header_words c.args.to.now.items
 pub loop-header-preserved : goal.loop-header-preserved
 loop-header-preserved c =
     one_more header_words c.args.to.now.items c.loop-header.to.items c.put_words.new.to.items c.args.headers.now c.loop-header.header-index _ c.header_words.result
-      (omega arith) c.loop-header.invariant c.header_words.ensures c.in_ok-put_words.ensures
+    (omega arith) c.loop-header.invariant c.header_words.ensures c.in_ok-put_words.ensures
 
 pub returns : goal.returns
 returns c = all_done header_words c.args.to.now.items c.loop-header.to.items c.args.headers.now c.loop-header.header-index (omega arith) c.loop-header.invariant

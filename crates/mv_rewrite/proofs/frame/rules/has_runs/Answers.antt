@@ -12,16 +12,16 @@ pub returns-then-not-is_run : goal.returns-then-not-is_run
 returns-then-not-is_run c =
     let x = c.args.file.now in
     let fails : is_run (field x 8) (field x 14) c.loop-index.from (run_place_at x c.loop-index.index) ≡ false =
-        cc (c.field-table.ensures, c.field-list.ensures, c.run_place-run.ensures, c.is_run.ensures.value, c.if-not-is_run.true) in
+    cc (c.field-table.ensures, c.field-list.ensures, c.run_place-run.ensures, c.is_run.ensures.value, c.if-not-is_run.true) in
     rule_fails x _ c.loop-index.from c.loop-index.index c.field-index-end.result (omega arith) c.loop-index.invariant.same fails
 
 pub loop-index-preserved : goal.loop-index-preserved
 loop-index-preserved c =
     let x = c.args.file.now in
     let holds : is_run (field x 8) (field x 14) c.loop-index.from (run_place_at x c.loop-index.index) ≡ true =
-        cc (c.field-table.ensures, c.field-list.ensures, c.run_place-run.ensures, c.is_run.ensures.value, c.if-not-is_run.false) in
+    cc (c.field-table.ensures, c.field-list.ensures, c.run_place-run.ensures, c.is_run.ensures.value, c.if-not-is_run.false) in
     let next : c.from.result + c.from-in-loop-index.result + 1 ≡ (run_place_at x c.loop-index.index).lo + (run_place_at x c.loop-index.index).len + 1 =
-        omega (arith, ap (λ (r : RunPlace). r.lo) c.run_place-run.ensures, ap (λ (r : RunPlace). r.len) c.run_place-run.ensures) in
+    omega (arith, ap (λ (r : RunPlace). r.lo) c.run_place-run.ensures, ap (λ (r : RunPlace). r.len) c.run_place-run.ensures) in
     record {
       same = rule_holds x _ c.loop-index.from _ c.loop-index.index c.field-index-end.result (omega arith) c.loop-index.invariant.same holds next;
       low = omega (arith, c.if-not-is_run.ensures.end);

@@ -11,7 +11,7 @@ pub loop-index-preserved : goal.loop-index-preserved
 loop-index-preserved c =
     let x = c.args.file.now in
     let next : c.loop-index.size + c.from-size.result ≡ c.loop-index.size + (run_place_at x c.loop-index.index).len =
-        omega (arith, ap (λ (r : RunPlace). r.len) c.run_place-run.ensures) in
+    omega (arith, ap (λ (r : RunPlace). r.len) c.run_place-run.ensures) in
     record {
       same = len_next x _ c.loop-index.size _ c.loop-index.index c.field-index-end.result (omega arith) c.loop-index.invariant.same next;
       low = omega arith;
