@@ -86,8 +86,8 @@ written-begun a s w =
       held = w.held;
       rewrites = w.rewrites;
       stored = λ t.
-        let P : Option (List ℕ) → Type 0 = λ o. KeepsOrBegins (s.before (output_of a)) o w.x in
-        subst P (sym (w.stored t)) (inr ([], sym (append-nil w.x)));
+          let P : Option (List ℕ) → Type 0 = λ o. KeepsOrBegins (s.before (output_of a)) o w.x in
+          subst P (sym (w.stored t)) (inr ([], sym (append-nil w.x)));
       others = w.others;
     }
 
@@ -197,8 +197,8 @@ prints-refused :
 prints-refused status why a s k h reported =
     let P : Status → Type 0 = λ st. PrintsAt st a s k in
     elim reported [
-      inl is ↦ subst P (sym is.answer_is) (says-why why a s k h is.said)
-    | inr is ↦ subst P (sym is.answer_is) (prints-starved why a s k h is.said)
+      | inl is ↦ subst P (sym is.answer_is) (says-why why a s k h is.said)
+      | inr is ↦ subst P (sym is.answer_is) (prints-starved why a s k h is.said)
     ]
 
 prints-without :
@@ -208,8 +208,8 @@ prints-without status why k e reported =
     let Q : Refusal → Type 0 = λ w. Says k (message_of w) in
     let R : Refusal → Type 0 = λ w. SaysPart k (message_of w) ⊎ SaysPart k memory_message in
     elim reported [
-      inl is ↦ subst P (sym (is.answer_is ∙ ap status_of e)) (subst Q e is.said)
-    | inr is ↦ subst P (sym is.answer_is) (subst R e is.said)
+      | inl is ↦ subst P (sym (is.answer_is ∙ ap status_of e)) (subst Q e is.said)
+      | inr is ↦ subst P (sym is.answer_is) (subst R e is.said)
     ]
 
 -- what the answer has printed

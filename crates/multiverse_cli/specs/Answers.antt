@@ -98,14 +98,14 @@ pub record IsDue (status : Status) (a : Asked) (s : Stored) (k : Printed) : Type
   pub missing : s.before (input_of a) ≡ None → IsUnlessMemory status ReadFault
   -- a file that is too large is refused
   pub oversized :
-    IsSomeAnd (s.before (input_of a)) IsOversized → ¬ IsReadFault s (input_of a) → IsUnlessMemory status TooLarge
+      IsSomeAnd (s.before (input_of a)) IsOversized → ¬ IsReadFault s (input_of a) → IsUnlessMemory status TooLarge
   -- an image with a fault is refused
   pub faulty :
-    IsSomeAnd (s.before (input_of a)) IsFaulty → ¬ IsReadFault s (input_of a) → IsUnlessMemory status BadImage
+      IsSomeAnd (s.before (input_of a)) IsFaulty → ¬ IsReadFault s (input_of a) → IsUnlessMemory status BadImage
   -- every other file is rewritten, where nothing outside fails
   pub complete :
-    IsSomeAnd (s.before (input_of a)) IsRewritable
-    → ¬ IsReadFault s (input_of a) → ¬ IsWriteFault s (output_of a) → ¬ IsSinkFault k → IsUnlessMemory status Done
+      IsSomeAnd (s.before (input_of a)) IsRewritable
+      → ¬ IsReadFault s (input_of a) → ¬ IsWriteFault s (output_of a) → ¬ IsSinkFault k → IsUnlessMemory status Done
 
 -- which answer has to come: Usage without a command, else the first that is due
 abbrev pub FirstDue : Status → Option Asked → Stored → Printed → Type 0

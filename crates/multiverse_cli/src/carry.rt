@@ -65,11 +65,7 @@ fn read_file<'a, S: Store>(
 }
 
 /// Makes a file hold the bytes.
-fn write_file<'a, S: Store>(
-    name: &'a str,
-    bytes: &[u8],
-    store: &mut S,
-) -> Result<(), Failure<'a>>
+fn write_file<'a, S: Store>(name: &'a str, bytes: &[u8], store: &mut S) -> Result<(), Failure<'a>>
     ensures writes { WritesFile result name.now bytes.now (stored S.tells S.holds S.read_faults S.write_faults S.failed store.old store.new) }
     ensures others_same { KeepsOthers (stored S.tells S.holds S.read_faults S.write_faults S.failed store.old store.new) name.now }
 {

@@ -13,11 +13,7 @@ use mv_base::{Sink, SinkFault, Status};
 use std::alloc::Global;
 
 /// Prints the text of a command that is done, or the message of one that isn't, and gives the answer.
-pub fn report<K: Sink>(
-    alloc: Global,
-    outcome: Result<Vec<u8>, Failure<'_>>,
-    out: &mut K,
-) -> Status
+pub fn report<K: Sink>(alloc: Global, outcome: Result<Vec<u8>, Failure<'_>>, out: &mut K) -> Status
     ensures { Reports result outcome.entry (printed K.tells K.written K.faults out.old out.new) }
 {
     match outcome {

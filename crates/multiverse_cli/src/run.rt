@@ -14,12 +14,7 @@ use std::alloc::Global;
 ///
 /// The answers are looked for in the order Usage, ReadFault, TooLarge, BadImage, WriteFault, SinkFault, Done; NoMemory
 /// may come at any place. The clauses say when each comes, which one has to come, and what it leaves behind.
-pub fn run<S: Store, K: Sink>(
-    alloc: Global,
-    words: &[String],
-    store: &mut S,
-    out: &mut K,
-) -> Status
+pub fn run<S: Store, K: Sink>(alloc: Global, words: &[String], store: &mut S, out: &mut K) -> Status
     // When an answer may come: a fault of the outside only where its count rose in this call, any other only where the
     // words or the input's bytes are so.
     ensures comes { Comes result (asked_of (texts words.now)) (stored S.tells S.holds S.read_faults S.write_faults S.failed store.old store.new) (printed K.tells K.written K.faults out.old out.new) }

@@ -67,12 +67,7 @@ pub fn message(alloc: Global, refusal: &Refusal<'_>) -> Result<Vec<u8>, NoMemory
 }
 
 /// The line of a name between two texts.
-fn name_line(
-    alloc: Global,
-    before: &str,
-    name: &str,
-    after: &str,
-) -> Result<Vec<u8>, NoMemory>
+fn name_line(alloc: Global, before: &str, name: &str, after: &str) -> Result<Vec<u8>, NoMemory>
     ensures { IfOk result (λ text. text.items ≡ line (before.now ++ name.now ++ after.now)) }
 {
     let mut text = Vec::new(alloc);

@@ -26,8 +26,7 @@ fn rewrite_command(words: &[String]) -> Option<Command<'_>>
         [command, input, output]
             if command.as_str() == "rewrite"
                 && is_name(input.as_str())
-                && is_name(output.as_str()) =>
-        {
+                && is_name(output.as_str()) => {
             Some(Command::Rewrite {
                 input: input.as_str(),
                 output: output.as_str(),

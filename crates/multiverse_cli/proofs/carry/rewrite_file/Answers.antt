@@ -12,7 +12,12 @@ returns g c =
     let w = stored g.S.Store.tells g.S.Store.holds g.S.Store.read_faults g.S.Store.write_faults g.S.Store.failed c.read_file.new.store c.write_file.new.store in
     let s = stored g.S.Store.tells g.S.Store.holds g.S.Store.read_faults g.S.Store.write_faults g.S.Store.failed c.args.store.now c.write_file.new.store in
     let last : IsLastStep w s = record {
-      tells = read.tells_same; before = read.holds_same; after = refl; writes_before = read.write_faults_same; writes_after = refl; failed = refl
+      tells = read.tells_same;
+      before = read.holds_same;
+      after = refl;
+      writes_before = read.write_faults_same;
+      writes_after = refl;
+      failed = refl;
     } in
     record {
       written = record {
@@ -33,9 +38,14 @@ returns-in_err-write_file g c =
     let w = stored g.S.Store.tells g.S.Store.holds g.S.Store.read_faults g.S.Store.write_faults g.S.Store.failed c.read_file.new.store c.write_file.new.store in
     let s = stored g.S.Store.tells g.S.Store.holds g.S.Store.read_faults g.S.Store.write_faults g.S.Store.failed c.args.store.now c.write_file.new.store in
     let last : IsLastStep w s = record {
-      tells = read.tells_same; before = read.holds_same; after = refl; writes_before = read.write_faults_same; writes_after = refl; failed = refl
+      tells = read.tells_same;
+      before = read.holds_same;
+      after = refl;
+      writes_before = read.write_faults_same;
+      writes_after = refl;
+      failed = refl;
     } in
     passes-on _ _ _ _ c.from_residual-in_err-write_file.ensures.1
     (fails-whole _ (ToRewrite c.args.input.now c.args.output.now) w s _ c.as_slice-2.result.now last read.reads.0
-     (rewrites-to _ _ _ read.reads.1 c.as_slice-2.ensures.value is)
-     c.in_err-write_file.ensures.writes c.in_err-write_file.ensures.others_same)
+    (rewrites-to _ _ _ read.reads.1 c.as_slice-2.ensures.value is)
+    c.in_err-write_file.ensures.writes c.in_err-write_file.ensures.others_same)
