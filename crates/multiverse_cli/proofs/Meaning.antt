@@ -1,0 +1,271 @@
+-- From what was tried and what was reported, to what the answer means.
+use Rattle.std.proofs.Common.{◌≡◌, ℕ, ◌⊎◌, List, [], Option, Some, None, Result, Ok, Err, IsSomeAnd, IsTrue, Vec, Global, sym, ◌∙◌, ap, subst, inl, inr, append-nil}
+use Rattle.mv_base.specs.Holding.{KeepsOrBegins}
+use Rattle.mv_base.specs.declared.status.Status.{Status}
+use Rattle.mv_base.specs.declared.status.Status.TheVariants.{Done, Usage, ReadFault, WriteFault, BadImage, NoRoom, BadLog, NoMemory, SinkFault, TooLarge}
+use Rattle.elf32_read.specs.declared.fault.ImageFault.{ImageFault}
+use Rattle.elf32_read.specs.declared.fault.ImageFault.TheVariants.{NotYet}
+use Rattle.multiverse_cli.specs.declared.failure.Failure.{Failure}
+use Rattle.multiverse_cli.specs.declared.failure.Failure.TheVariants as failure
+use Rattle.multiverse_cli.specs.declared.refusal.Refusal.{Refusal}
+use Rattle.multiverse_cli.specs.declared.refusal.Refusal.TheVariants as refusal
+use Rattle.multiverse_cli.specs.Answers.{IsRewritable, InputIs, input_of, output_of, WritesOutput, BeginsOutput, IsInput, text_of, Comes, ComesAt, ComesWithout, Leaves, LeavesAt, Prints, PrintsAt, PrintsWithout, IsCutOff, OfMemory, OfRead, OfSize, OfImage, OfWrite, OfDone, Delivers, Delivered}
+use Rattle.multiverse_cli.specs.Outside.{Stored, Printed, Held, KeepsAll, Says, SaysAll, SaysPart}
+use Rattle.multiverse_cli.specs.Steps.{Attempts, Carries, CarriesNothing, IsCarriedOut, IsRefused, IsStarved, PrintsText, PrintsRefusal, Refuses, Reports}
+use Rattle.multiverse_cli.specs.Texts.{status_of, message_of, memory_message, read_message, size_message, image_message, write_message, usage_message}
+use Rattle.multiverse_cli.specs.Words.{Asked}
+
+-- what is known of the bytes that the input held is known of the input
+pub input-is :
+    (a : Asked) (s : Stored) (fact : List ℕ → Type 0) (b : List ℕ) → Held s (input_of a) b → fact b → InputIs a s fact
+input-is a s fact b held h t = let P : Option (List ℕ) → Type 0 = λ o. IsSomeAnd o fact in subst P (sym (held t)) h
+
+-- the input of a command that wrote its output is rewritten, and of one that began to
+pub written-input : (a : Asked) (s : Stored) → WritesOutput a s → InputIs a s IsRewritable
+written-input a s w = input-is a s IsRewritable w.b w.held w.rewrites.rewritable
+
+pub begun-input : (a : Asked) (s : Stored) → BeginsOutput a s → InputIs a s IsRewritable
+begun-input a s w = input-is a s IsRewritable w.b w.held w.rewrites.rewritable
+
+-- ---- when an answer comes
+
+pub comes-text :
+    (status : Status) (a : Asked) (s : Stored) (k : Printed) (text : List ℕ) → IsCarriedOut a s text → PrintsText status text k
+    → ComesAt status a s k
+comes-text Done a s k text is h = written-input a s is.written
+comes-text Usage a s k text is h = absurd h
+comes-text ReadFault a s k text is h = absurd h
+comes-text TooLarge a s k text is h = absurd h
+comes-text BadImage a s k text is h = absurd h
+comes-text BadLog a s k text is h = absurd h
+comes-text NoRoom a s k text is h = absurd h
+comes-text WriteFault a s k text is h = absurd h
+comes-text SinkFault a s k text is h = (h.0, written-input a s is.written)
+comes-text NoMemory a s k text is h = tt
+
+pub comes-why : (why : Refusal) (a : Asked) (s : Stored) (k : Printed) → Refuses why a s → ComesAt (status_of why) a s k
+comes-why refusal.Usage a s k h = h
+comes-why (refusal.ReadFault name) a s k h = h.1
+comes-why (refusal.TooLarge name) a s k h = h.1
+comes-why (refusal.BadImage fault) a s k h = h.1
+comes-why (refusal.WriteFault name) a s k h = (h.1, begun-input a s h.2)
+
+comes-refused :
+    (status : Status) (why : Refusal) (a : Asked) (s : Stored) (k : Printed) → Refuses why a s → PrintsRefusal status why k
+    → ComesAt status a s k
+comes-refused status why a s k h reported =
+    let P : Status → Type 0 = λ st. ComesAt st a s k in
+    elim reported [ inl is ↦ subst P (sym is.answer_is) (comes-why why a s k h) | inr is ↦ subst P (sym is.answer_is) tt ]
+
+comes-without :
+    (status : Status) (why : Refusal) (k : Printed) → why ≡ refusal.Usage → PrintsRefusal status why k → ComesWithout status
+comes-without status why k e reported =
+    let P : Status → Type 0 = ComesWithout in
+    elim reported [ inl is ↦ subst P (sym (is.answer_is ∙ ap status_of e)) tt | inr is ↦ subst P (sym is.answer_is) tt ]
+
+-- when the answer may come
+pub comes-of :
+    (r : Result (Vec ℕ Global) Failure) (status : Status) (asked : Option Asked) (s : Stored) (k : Printed)
+    → Attempts r asked s → Reports status r k → Comes status asked s k
+comes-of (Ok text) status None s k tried reported = absurd tried
+comes-of (Ok text) status (Some a) s k tried reported = comes-text status a s k text.items tried reported
+comes-of (Err (failure.Refused why)) status None s k tried reported = comes-without status why k tried.0 reported
+comes-of (Err (failure.Refused why)) status (Some a) s k tried reported = comes-refused status why a s k tried reported
+comes-of (Err failure.NoMemory) status None s k tried reported = absurd tried
+comes-of (Err failure.NoMemory) status (Some a) s k tried reported =
+    let P : Status → Type 0 = λ st. ComesAt st a s k in subst P (sym reported.0) tt
+
+-- ---- what an answer leaves in the store
+
+-- an output that was written whole was begun
+pub written-begun : (a : Asked) (s : Stored) → WritesOutput a s → BeginsOutput a s
+written-begun a s w =
+    record {
+      b = w.b;
+      x = w.x;
+      held = w.held;
+      rewrites = w.rewrites;
+      stored = λ t.
+          let P : Option (List ℕ) → Type 0 = λ o. KeepsOrBegins (s.before (output_of a)) o w.x in
+          subst P (sym (w.stored t)) (inr ([], sym (append-nil w.x)));
+      others = w.others;
+    }
+
+pub leaves-text :
+    (status : Status) (a : Asked) (s : Stored) (k : Printed) (text : List ℕ) → IsCarriedOut a s text → PrintsText status text k
+    → LeavesAt status a s
+leaves-text Done a s k text is h = is.written
+leaves-text Usage a s k text is h = absurd h
+leaves-text ReadFault a s k text is h = absurd h
+leaves-text TooLarge a s k text is h = absurd h
+leaves-text BadImage a s k text is h = absurd h
+leaves-text BadLog a s k text is h = absurd h
+leaves-text NoRoom a s k text is h = absurd h
+leaves-text WriteFault a s k text is h = absurd h
+leaves-text SinkFault a s k text is h = is.written
+leaves-text NoMemory a s k text is h = inr (written-begun a s is.written)
+
+pub leaves-why : (why : Refusal) (a : Asked) (s : Stored) → Refuses why a s → LeavesAt (status_of why) a s
+leaves-why refusal.Usage a s h = absurd h
+leaves-why (refusal.ReadFault name) a s h = h.2
+leaves-why (refusal.TooLarge name) a s h = h.2
+leaves-why (refusal.BadImage fault) a s h = h.2
+leaves-why (refusal.WriteFault name) a s h = h.2
+
+-- a refusal leaves what want of memory may leave
+pub leaves-starved : (why : Refusal) (a : Asked) (s : Stored) → Refuses why a s → LeavesAt NoMemory a s
+leaves-starved refusal.Usage a s h = absurd h
+leaves-starved (refusal.ReadFault name) a s h = inl h.2
+leaves-starved (refusal.TooLarge name) a s h = inl h.2
+leaves-starved (refusal.BadImage fault) a s h = inl h.2
+leaves-starved (refusal.WriteFault name) a s h = inr h.2
+
+leaves-refused :
+    (status : Status) (why : Refusal) (a : Asked) (s : Stored) (k : Printed) → Refuses why a s → PrintsRefusal status why k
+    → LeavesAt status a s
+leaves-refused status why a s k h reported =
+    let P : Status → Type 0 = λ st. LeavesAt st a s in
+    elim reported [ inl is ↦ subst P (sym is.answer_is) (leaves-why why a s h) | inr is ↦ subst P (sym is.answer_is) (leaves-starved why a s h) ]
+
+-- what the answer leaves in the store
+pub leaves-of :
+    (r : Result (Vec ℕ Global) Failure) (status : Status) (asked : Option Asked) (s : Stored) (k : Printed)
+    → Attempts r asked s → Reports status r k → Leaves status asked s
+leaves-of (Ok text) status None s k tried reported = absurd tried
+leaves-of (Ok text) status (Some a) s k tried reported = leaves-text status a s k text.items tried reported
+leaves-of (Err (failure.Refused why)) status None s k tried reported = tried.1
+leaves-of (Err (failure.Refused why)) status (Some a) s k tried reported = leaves-refused status why a s k tried reported
+leaves-of (Err failure.NoMemory) status None s k tried reported = absurd tried
+leaves-of (Err failure.NoMemory) status (Some a) s k tried reported =
+    let P : Status → Type 0 = λ st. LeavesAt st a s in subst P (sym reported.0) tried
+
+-- ---- what an answer prints
+
+-- the input of a command that wrote its output
+pub written-is-input : (a : Asked) (s : Stored) (w : WritesOutput a s) → IsInput a s w.b
+written-is-input a s w = record { held = w.held; rewritable = w.rewrites.rewritable }
+
+pub prints-text :
+    (status : Status) (a : Asked) (s : Stored) (k : Printed) (b : List ℕ) → IsInput a s b → PrintsText status (text_of b) k
+    → PrintsAt status a s k
+prints-text Done a s k b is h = (b, is, h)
+prints-text Usage a s k b is h = absurd h
+prints-text ReadFault a s k b is h = absurd h
+prints-text TooLarge a s k b is h = absurd h
+prints-text BadImage a s k b is h = absurd h
+prints-text BadLog a s k b is h = absurd h
+prints-text NoRoom a s k b is h = absurd h
+prints-text WriteFault a s k b is h = absurd h
+prints-text SinkFault a s k b is h = (b, is, h.1)
+prints-text NoMemory a s k b is h = (text_of b, OfDone b is, h)
+
+-- the message of a refusal, as it is said of the command
+pub says-why :
+    (why : Refusal) (a : Asked) (s : Stored) (k : Printed) → Refuses why a s → Says k (message_of why)
+    → PrintsAt (status_of why) a s k
+says-why refusal.Usage a s k h said = absurd h
+says-why (refusal.ReadFault name) a s k h said =
+    let P : List ℕ → Type 0 = λ n. Says k (read_message n) in subst P h.0 said
+says-why (refusal.TooLarge name) a s k h said =
+    let P : List ℕ → Type 0 = λ n. Says k (size_message n) in subst P h.0 said
+says-why (refusal.BadImage fault) a s k h said =
+    let P : ImageFault → Type 0 = λ f. Says k (image_message f) in subst P h.0 said
+says-why (refusal.WriteFault name) a s k h said =
+    let P : List ℕ → Type 0 = λ n. Says k (write_message n) in subst P h.0 said
+
+-- the message of a refusal is one that want of memory may cut off
+pub cut-off : (why : Refusal) (a : Asked) (s : Stored) → Refuses why a s → IsCutOff a s (message_of why)
+cut-off refusal.Usage a s h = absurd h
+cut-off (refusal.ReadFault name) a s h =
+    let P : List ℕ → Type 0 = λ n. IsCutOff a s (read_message n) in subst P (sym h.0) (OfRead h.1)
+cut-off (refusal.TooLarge name) a s h =
+    let P : List ℕ → Type 0 = λ n. IsCutOff a s (size_message n) in subst P (sym h.0) (OfSize h.1)
+cut-off (refusal.BadImage fault) a s h =
+    let P : ImageFault → Type 0 = λ f. IsCutOff a s (image_message f) in subst P (sym h.0) (OfImage h.1)
+cut-off (refusal.WriteFault name) a s h =
+    let P : List ℕ → Type 0 = λ n. IsCutOff a s (write_message n) in subst P (sym h.0) (OfWrite h.1)
+
+prints-starved :
+    (why : Refusal) (a : Asked) (s : Stored) (k : Printed) → Refuses why a s
+    → SaysPart k (message_of why) ⊎ SaysPart k memory_message → PrintsAt NoMemory a s k
+prints-starved why a s k h said =
+    elim said [ inl part ↦ (message_of why, cut-off why a s h, part) | inr part ↦ (memory_message, OfMemory, part) ]
+
+prints-refused :
+    (status : Status) (why : Refusal) (a : Asked) (s : Stored) (k : Printed) → Refuses why a s → PrintsRefusal status why k
+    → PrintsAt status a s k
+prints-refused status why a s k h reported =
+    let P : Status → Type 0 = λ st. PrintsAt st a s k in
+    elim reported [
+      | inl is ↦ subst P (sym is.answer_is) (says-why why a s k h is.said)
+      | inr is ↦ subst P (sym is.answer_is) (prints-starved why a s k h is.said)
+    ]
+
+prints-without :
+    (status : Status) (why : Refusal) (k : Printed) → why ≡ refusal.Usage → PrintsRefusal status why k → PrintsWithout status k
+prints-without status why k e reported =
+    let P : Status → Type 0 = λ st. PrintsWithout st k in
+    let Q : Refusal → Type 0 = λ w. Says k (message_of w) in
+    let R : Refusal → Type 0 = λ w. SaysPart k (message_of w) ⊎ SaysPart k memory_message in
+    elim reported [
+      | inl is ↦ subst P (sym (is.answer_is ∙ ap status_of e)) (subst Q e is.said)
+      | inr is ↦ subst P (sym is.answer_is) (subst R e is.said)
+    ]
+
+-- what the answer has printed
+pub prints-of :
+    (r : Result (Vec ℕ Global) Failure) (status : Status) (asked : Option Asked) (s : Stored) (k : Printed)
+    → Attempts r asked s → Reports status r k → Prints status asked s k
+prints-of (Ok text) status None s k tried reported = absurd tried
+prints-of (Ok text) status (Some a) s k tried reported =
+    let P : List ℕ → Type 0 = λ t. PrintsText status t k in
+    prints-text status a s k tried.written.b (written-is-input a s tried.written) (subst P tried.text_is reported)
+prints-of (Err (failure.Refused why)) status None s k tried reported = prints-without status why k tried.0 reported
+prints-of (Err (failure.Refused why)) status (Some a) s k tried reported = prints-refused status why a s k tried reported
+prints-of (Err failure.NoMemory) status None s k tried reported = absurd tried
+prints-of (Err failure.NoMemory) status (Some a) s k tried reported =
+    let P : Status → Type 0 = λ st. PrintsAt st a s k in
+    subst P (sym reported.0) (memory_message, OfMemory, reported.1)
+
+-- ---- what Done delivers
+
+delivers-text :
+    (status : Status) (a : Asked) (s : Stored) (k : Printed) (w : WritesOutput a s) → PrintsText status (text_of w.b) k
+    → Delivers status (Some a) s k
+delivers-text Done a s k w h =
+    record { b = w.b; x = w.x; held = w.held; rewrites = w.rewrites; stored = w.stored; printed = h }
+delivers-text Usage a s k w h = tt
+delivers-text ReadFault a s k w h = tt
+delivers-text TooLarge a s k w h = tt
+delivers-text BadImage a s k w h = tt
+delivers-text BadLog a s k w h = tt
+delivers-text NoRoom a s k w h = tt
+delivers-text WriteFault a s k w h = tt
+delivers-text SinkFault a s k w h = tt
+delivers-text NoMemory a s k w h = tt
+
+pub delivers-why : (why : Refusal) (asked : Option Asked) (s : Stored) (k : Printed) → Delivers (status_of why) asked s k
+delivers-why refusal.Usage asked s k = tt
+delivers-why (refusal.ReadFault name) asked s k = tt
+delivers-why (refusal.TooLarge name) asked s k = tt
+delivers-why (refusal.BadImage fault) asked s k = tt
+delivers-why (refusal.WriteFault name) asked s k = tt
+
+delivers-refused :
+    (status : Status) (why : Refusal) (asked : Option Asked) (s : Stored) (k : Printed) → PrintsRefusal status why k
+    → Delivers status asked s k
+delivers-refused status why asked s k reported =
+    let P : Status → Type 0 = λ st. Delivers st asked s k in
+    elim reported [ inl is ↦ subst P (sym is.answer_is) (delivers-why why asked s k) | inr is ↦ subst P (sym is.answer_is) tt ]
+
+-- what the answer delivers
+pub delivers-of :
+    (r : Result (Vec ℕ Global) Failure) (status : Status) (asked : Option Asked) (s : Stored) (k : Printed)
+    → Attempts r asked s → Reports status r k → Delivers status asked s k
+delivers-of (Ok text) status None s k tried reported = absurd tried
+delivers-of (Ok text) status (Some a) s k tried reported =
+    let P : List ℕ → Type 0 = λ t. PrintsText status t k in
+    delivers-text status a s k tried.written (subst P tried.text_is reported)
+delivers-of (Err (failure.Refused why)) status asked s k tried reported = delivers-refused status why asked s k reported
+delivers-of (Err failure.NoMemory) status asked s k tried reported =
+    let P : Status → Type 0 = λ st. Delivers st asked s k in subst P (sym reported.0) tt

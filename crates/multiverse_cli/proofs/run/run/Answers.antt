@@ -1,0 +1,19 @@
+-- Each clause follows from what was tried and what was reported.
+use Rattle.multiverse_cli.proofs.Meaning.{comes-of, leaves-of, prints-of, delivers-of}
+use Rattle.multiverse_cli.proofs.Due.{due-of}
+use Rattle.multiverse_cli.proofs.run.run.Goals as goal
+
+pub returns-clause-comes : goal.returns-clause-comes
+returns-clause-comes g c = comes-of _ _ _ _ _ c.attempt-outcome.ensures c.report.ensures
+
+pub returns-clause-first_due : goal.returns-clause-first_due
+returns-clause-first_due g c = due-of _ _ _ _ (comes-of _ _ _ _ _ c.attempt-outcome.ensures c.report.ensures)
+
+pub returns-clause-leaves : goal.returns-clause-leaves
+returns-clause-leaves g c = leaves-of _ _ _ _ _ c.attempt-outcome.ensures c.report.ensures
+
+pub returns-clause-prints : goal.returns-clause-prints
+returns-clause-prints g c = prints-of _ _ _ _ _ c.attempt-outcome.ensures c.report.ensures
+
+pub returns-clause-delivers : goal.returns-clause-delivers
+returns-clause-delivers g c = delivers-of _ _ _ _ _ c.attempt-outcome.ensures c.report.ensures

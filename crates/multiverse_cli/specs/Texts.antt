@@ -1,0 +1,119 @@
+-- The texts that the program prints. This project's own. A text is the list of its bytes; each line ends with a line feed.
+use Rattle.std.specs.Prelude.{ℕ, List, [], ◌∷◌, ◌++◌, codes, decimal}
+use Rattle.mv_base.specs.Text.{hex8}
+use Rattle.mv_base.specs.declared.status.Status.{Status}
+use Rattle.mv_base.specs.declared.status.Status.TheVariants as status
+use Rattle.elf32_read.specs.declared.fault.ImageFault.{ImageFault}
+use Rattle.elf32_read.specs.declared.fault.ImageFault.TheVariants.{ShortHeader, NotElf, NotElf32Little, NotI386, NotExecutable, BadVersion, BadSizes, HeaderCount, HeadersOutside, Interpreter, Dynamic, FileRange, MemorySmaller, AddressRange, NoPermission, WritableCode, NotCongruent, SharedPage, NoLoad, CodeTooLarge, HeadersFull, NotYet}
+use Rattle.multiverse_cli.specs.declared.refusal.Refusal.{Refusal}
+use Rattle.multiverse_cli.specs.declared.refusal.Refusal.TheVariants as refusal
+
+-- a text and a line feed
+abbrev pub line : List ℕ → List ℕ
+line text = text ++ (10 ∷ [])
+
+-- a word, a space and a number in decimal, as a line
+abbrev pub count_line : List ℕ → ℕ → List ℕ
+count_line word n = line (word ++ codes " " ++ decimal n)
+
+-- the added addresses, as a line: where they begin and how many they are, in hexadecimal
+abbrev pub added_line : ℕ → ℕ → List ℕ
+added_line lo len = line (codes "added " ++ hex8 lo ++ codes " " ++ hex8 len)
+
+-- what a rewrite prints when it is done
+abbrev pub rewritten_text : ℕ → ℕ → ℕ → ℕ → List ℕ
+rewritten_text sites lo len counters = count_line (codes "sites") sites ++ added_line lo len ++ count_line (codes "counters") counters
+
+-- a name for a fault, as it is printed
+abbrev pub fault_name : ImageFault → List ℕ
+fault_name ShortHeader = codes "ShortHeader"
+fault_name NotElf = codes "NotElf"
+fault_name NotElf32Little = codes "NotElf32Little"
+fault_name NotI386 = codes "NotI386"
+fault_name NotExecutable = codes "NotExecutable"
+fault_name BadVersion = codes "BadVersion"
+fault_name BadSizes = codes "BadSizes"
+fault_name HeaderCount = codes "HeaderCount"
+fault_name HeadersOutside = codes "HeadersOutside"
+fault_name (Interpreter i) = codes "Interpreter"
+fault_name (Dynamic i) = codes "Dynamic"
+fault_name (FileRange i) = codes "FileRange"
+fault_name (MemorySmaller i) = codes "MemorySmaller"
+fault_name (AddressRange i) = codes "AddressRange"
+fault_name (NoPermission i) = codes "NoPermission"
+fault_name (WritableCode i) = codes "WritableCode"
+fault_name (NotCongruent i) = codes "NotCongruent"
+fault_name (SharedPage i) = codes "SharedPage"
+fault_name NoLoad = codes "NoLoad"
+fault_name CodeTooLarge = codes "CodeTooLarge"
+fault_name HeadersFull = codes "HeadersFull"
+fault_name NotYet = codes "NotYet"
+
+-- the number of a program header, as it follows a fault's name
+abbrev pub header_text : ℕ → List ℕ
+header_text i = codes " header " ++ decimal i
+
+-- what follows the name of a fault: the number of the header that has it, or nothing
+abbrev pub fault_place : ImageFault → List ℕ
+fault_place ShortHeader = []
+fault_place NotElf = []
+fault_place NotElf32Little = []
+fault_place NotI386 = []
+fault_place NotExecutable = []
+fault_place BadVersion = []
+fault_place BadSizes = []
+fault_place HeaderCount = []
+fault_place HeadersOutside = []
+fault_place (Interpreter i) = header_text i
+fault_place (Dynamic i) = header_text i
+fault_place (FileRange i) = header_text i
+fault_place (MemorySmaller i) = header_text i
+fault_place (AddressRange i) = header_text i
+fault_place (NoPermission i) = header_text i
+fault_place (WritableCode i) = header_text i
+fault_place (NotCongruent i) = header_text i
+fault_place (SharedPage i) = header_text i
+fault_place NoLoad = []
+fault_place CodeTooLarge = []
+fault_place HeadersFull = []
+fault_place NotYet = []
+
+-- the message that the words are no command
+abbrev pub usage_message : List ℕ
+usage_message = line (codes "multiverse: usage")
+
+-- the message that a file cannot be read
+abbrev pub read_message : List ℕ → List ℕ
+read_message name = line (codes "multiverse: cannot read " ++ name)
+
+-- the message that a file has more bytes than the limit
+abbrev pub size_message : List ℕ → List ℕ
+size_message name = line (codes "multiverse: too large: " ++ name ++ codes " above 67108864")
+
+-- the message that an image has a fault
+abbrev pub image_message : ImageFault → List ℕ
+image_message fault = line (codes "multiverse: bad image: " ++ fault_name fault ++ fault_place fault)
+
+-- the message that a file cannot be written
+abbrev pub write_message : List ℕ → List ℕ
+write_message name = line (codes "multiverse: cannot write " ++ name)
+
+-- the message that memory ran out
+abbrev pub memory_message : List ℕ
+memory_message = line (codes "multiverse: no memory")
+
+-- the message of a refusal
+abbrev pub message_of : Refusal → List ℕ
+message_of refusal.Usage = usage_message
+message_of (refusal.ReadFault name) = read_message name.now
+message_of (refusal.TooLarge name) = size_message name.now
+message_of (refusal.BadImage fault) = image_message fault
+message_of (refusal.WriteFault name) = write_message name.now
+
+-- the answer that a refusal is
+abbrev pub status_of : Refusal → Status
+status_of refusal.Usage = status.Usage
+status_of (refusal.ReadFault name) = status.ReadFault
+status_of (refusal.TooLarge name) = status.TooLarge
+status_of (refusal.BadImage fault) = status.BadImage
+status_of (refusal.WriteFault name) = status.WriteFault

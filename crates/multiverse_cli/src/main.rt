@@ -1,0 +1,56 @@
+//! The program: a static executable in, its rewritten form out.
+//!
+//! - `words`: what the program is asked to do.
+//! - `carry`: doing it, over any store, up to the text that is printed.
+//! - `refusal`, `failure`: why it is not done.
+//! - `texts`: what is printed, as bytes.
+//! - `report`: printing it, to any sink.
+//! - `run`: the whole, whose contract says what each answer means.
+//!
+//! `main` runs this over the files of the system and standard output, and ends with the answer's number.
+#![tactic(auto)]
+
+mod carry;
+mod failure;
+mod refusal;
+mod report;
+mod run;
+#[cfg(test)]
+mod tests;
+mod texts;
+mod words;
+
+use mv_base::{FileStore, Status, StdSink};
+use std::env;
+use std::io::{self, Error, ErrorKind};
+use std::process::ExitCode;
+use std::rt::Env;
+
+/// The number with which the program ends where an argument isn't UTF-8. It stands for nothing else.
+const NOT_TEXT: u8 = 14;
+
+fn main(rt: HostRuntime) -> ExitCode {
+    match words_after_name(&rt) {
+        Ok(words) => {
+            let mut store = FileStore::new(rt.alloc(), &rt);
+            let mut out = StdSink::new(&rt);
+            let status = run::run(rt.alloc(), words.as_slice(), &mut store, &mut out);
+            ExitCode::from(status.code())
+        }
+        Err(error) => ExitCode::from(wordless_code(&error)),
+    }
+}
+
+/// The words after the program's name.
+fn words_after_name<R: Env + AllocGlobal>(rt: &R) -> io::Result<Vec<String>> {
+    let words = env::args(rt)?.skip(1).collect(rt.alloc())?;
+    Ok(words)
+}
+
+/// The number with which the program ends where it gets no words.
+fn wordless_code(error: &Error) -> u8 {
+    match error.kind() {
+        ErrorKind::InvalidData => NOT_TEXT,
+        _ => Status::NoMemory.code(),
+    }
+}
