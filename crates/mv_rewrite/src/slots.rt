@@ -28,7 +28,7 @@ pub fn places(alloc: Global, sites: &[Site], base: u32) -> Result<Vec<(u32, u32)
     let mut at = base;
     for site in sites {
         pairs.push((site.at, at))?;
-        at += 32;
+        at += SLOT_LEN as u32;
     }
     Ok(pairs)
 }
@@ -53,7 +53,7 @@ pub fn slots(
     let mut here = base;
     for site in sites {
         put_slot(runs, table, site, here, &mut code)?;
-        here += 32;
+        here += SLOT_LEN as u32;
     }
     Ok(code)
 }
