@@ -12,7 +12,7 @@ use Rattle.mv_base.specs.Table.{run_of, flat_word}
 use Rattle.mv_rewrite.specs.Layout.{up}
 use Rattle.mv_rewrite.specs.File.{code_place}
 use Rattle.mv_rewrite.specs.Frame.{field, frame_at, run_place_at, has_places, has_block, has_runs, Frame, frame_table, frame_entry}
-use Rattle.mv_rewrite.proofs.Entries.{within_parts}
+use Rattle.mv_rewrite.proofs.EntryWords.{within_parts}
 use Rattle.mv_rewrite.specs.Framing.{is_run, IsFramed}
 
 -- the runs from the i-th on of the first n that a record spells
