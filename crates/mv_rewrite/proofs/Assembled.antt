@@ -1,25 +1,25 @@
 -- What the plan of a file gives its writer, and that its file is the output.
-use Rattle.std.proofs.Common.{◌≡◌, ℕ, ◌+◌, ◌≤◌, List, [], ◌∷◌, length, Option, Some, None, true, refl, sym, ap, ◌∙◌, subst, arith}
+use Rattle.std.proofs.Common.{◌≡◌, ℕ, ◌+◌, ◌≤◌, List, length, Option, Some, None, true, refl, sym, ap, ◌∙◌, subst, arith}
 use Rattle.std.specs.Option.{option_map}
 use Rattle.mv_base.specs.Bytes.{AreBytes}
 use Rattle.mv_base.specs.declared.range.RunPlace.{RunPlace}
 use Rattle.elf32_read.specs.declared.image.Phdr.{Phdr}
 use Rattle.elf32_read.specs.declared.run.Run.{Run}
 use Rattle.std.proofs.lemmas.Option.{none-some, same_Some}
-use Rattle.elf32_read.specs.Fields.{headers, header_at}
+use Rattle.elf32_read.specs.Fields.{headers}
 use Rattle.elf32_read.specs.Faults.{is_thin}
 use Rattle.elf32_read.specs.Runs.{runs_of, code_of}
 use Rattle.elf32_read.specs.Thin.{headers-thin, runs_of-thin}
 use Rattle.mv_rewrite.specs.declared.plan.Plan.{Plan}
 use Rattle.mv_rewrite.specs.declared.site.Site.{Site}
 use Rattle.mv_rewrite.specs.Sites.{sites, sites_in}
-use Rattle.mv_rewrite.specs.Layout.{up, base_of, size, code_len, table_len, private_len, plan_at}
-use Rattle.mv_rewrite.specs.File.{added_len, table_of, file_of}
+use Rattle.mv_rewrite.specs.Layout.{up, base_of, size, code_len, plan_at}
+use Rattle.mv_rewrite.specs.File.{added_len, file_of}
 use Rattle.mv_rewrite.specs.Laying.{IsLaid}
 use Rattle.mv_rewrite.specs.Output.{output, output_at}
 use Rattle.mv_rewrite.specs.Stopping.{Simulates}
 use Rattle.mv_rewrite.specs.Writing.{EndsLow}
-use Rattle.mv_rewrite.proofs.Planned.{length-code, length-table_of, length-counted, plan_runs, length-run_places, size_is, HasRoom, has_room_at}
+use Rattle.mv_rewrite.proofs.Planned.{length-code, length-table_of, length-counted, plan_runs, length-run_places, size_is, has_room_at}
 use Rattle.mv_rewrite.proofs.ThinLayout.{thin_sites}
 use Rattle.mv_rewrite.proofs.Outputs.{simulated, thin_input}
 

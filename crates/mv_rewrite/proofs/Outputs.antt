@@ -1,15 +1,14 @@
 -- The output of a file of the one form simulates it.
-use Rattle.std.proofs.Common.{◌≡◌, ℕ, ◌+◌, ◌≤◌, true, List, [], ◌∷◌, length, Option, Some, None, refl, sym, ap, ◌∙◌, arith}
+use Rattle.std.proofs.Common.{◌≡◌, ℕ, ◌≤◌, true, List, [], length, Some, ap, ◌∙◌, arith}
 use Rattle.std.specs.List.{sum_by}
 use Rattle.std.proofs.lemmas.List.Sums.{sum_by-cons}
 use Rattle.mv_base.specs.Bytes.{AreBytes}
 use Rattle.elf32_read.specs.declared.run.Run.{Run}
-use Rattle.elf32_read.specs.Fields.{header_at, header_count}
+use Rattle.elf32_read.specs.Fields.{header_at}
 use Rattle.elf32_read.specs.Faults.{is_thin, load_refusal, limit_fault, refusal}
 use Rattle.elf32_read.specs.Runs.{runs_of}
-use Rattle.elf32_read.specs.Thin.{IsThinHead, thin_head_facts, IsThinHeader, thin_header_facts, thin_run, runs_of-thin, length-thin_run, code_of-runs_of, AreApart-runs_of, refusal-thin}
-use Rattle.mv_rewrite.specs.Layout.{base_of, plan_at}
-use Rattle.mv_rewrite.specs.File.{file_of}
+use Rattle.elf32_read.specs.Thin.{thin_head_facts, thin_header_facts, thin_run, runs_of-thin, length-thin_run, code_of-runs_of, AreApart-runs_of, refusal-thin}
+use Rattle.mv_rewrite.specs.Layout.{base_of}
 use Rattle.mv_rewrite.specs.Output.{output_at}
 use Rattle.mv_rewrite.specs.Stopping.{Simulates}
 use Rattle.mv_rewrite.proofs.Fine.{neither}
