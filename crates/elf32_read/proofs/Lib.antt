@@ -1,2 +1,4 @@
 -- lemmas of this crate's proofs
 pub mod Flags
+pub mod Tables
+pub mod Refusals

@@ -3,4 +3,7 @@ pub mod Faults
 pub mod Load
 pub mod Runs
 pub mod Reading
+pub mod Whole
+pub mod Segments
+pub mod Joining
 pub mod Thin

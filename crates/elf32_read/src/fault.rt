@@ -48,6 +48,4 @@ pub enum ImageFault {
     CodeTooLarge,
     #[error("there are more than 61 program headers")]
     HeadersFull,
-    #[error("the file isn't of the one form that is rewritten yet")]
-    NotYet,
 }
