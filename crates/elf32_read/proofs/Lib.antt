@@ -2,3 +2,4 @@
 pub mod Flags
 pub mod Tables
 pub mod Refusals
+pub mod Bytes

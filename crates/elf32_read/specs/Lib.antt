@@ -5,5 +5,6 @@ pub mod Runs
 pub mod Reading
 pub mod Whole
 pub mod Segments
+pub mod Limits
 pub mod Joining
 pub mod Thin

@@ -6,6 +6,7 @@
 //! field by field, `run` gives the executable bytes. The definitions in specs/ say the same of the whole file.
 #![tactic(auto)]
 
+pub mod limit;
 pub mod fault;
 mod field;
 mod head;
@@ -15,6 +16,7 @@ pub mod image;
 pub mod reader;
 pub mod run;
 
+pub use limit::admit;
 pub use fault::ImageFault;
 pub use image::{Headers, Image, Phdr, Segment, Segments};
 pub use reader::{ReadImage, read_image};
