@@ -5,6 +5,7 @@ pub mod Runs
 pub mod Reading
 pub mod Whole
 pub mod Segments
+pub mod Loaded
 pub mod Limits
 pub mod Joining
 pub mod Thin

@@ -25,7 +25,7 @@ unfolding limit_fault
 exceeded-image b image is =
     ap (λ ss. or_else (fault_if (nat_lt 4194304 (code_size ss)) CodeTooLarge) (fault_if (nat_lt 61 (length image.headers)) HeadersFull)) is.segments_are
     ∙ ap (λ n. or_else (fault_if (nat_lt 4194304 (code_size (segments b))) CodeTooLarge) (fault_if (nat_lt 61 n) HeadersFull))
-        (ap length is.headers_are ∙ length-headers b)
+    (ap length is.headers_are ∙ length-headers b)
 
 -- an image is taken exactly where it exceeds no limit, and refused for the first that it exceeds
 pub exceeded-taken : (found : Option ImageFault) (u : Unit {0}) → Ok u ≡ answer_of found → found ≡ None

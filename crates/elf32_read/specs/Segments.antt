@@ -154,17 +154,17 @@ joined_code : (lo : ℕ) (bytes : List ℕ) (r : Run) (rest : Option ℕ) (a : �
 joined_code lo bytes r rest a true u touch inside second =
     let bounds = within_bounds lo (length bytes) a inside in
     let whole : within lo (length (bytes ++ r.bytes)) a ≡ true =
-        within-bounds lo (length (bytes ++ r.bytes)) a bounds.0 (simp length-append (omega arith)) in
+    within-bounds lo (length (bytes ++ r.bytes)) a bounds.0 (simp length-append (omega arith)) in
     rw whole (slice_get-append_left bytes r.bytes (a - lo) (omega arith))
 joined_code lo bytes r rest a false true touch outside inside =
     let bounds = within_bounds r.lo (length r.bytes) a inside in
     let whole : within lo (length (bytes ++ r.bytes)) a ≡ true =
-        within-bounds lo (length (bytes ++ r.bytes)) a (omega arith) (simp length-append (omega arith)) in
+    within-bounds lo (length (bytes ++ r.bytes)) a (omega arith) (simp length-append (omega arith)) in
     rw whole (slice_get-append_right bytes r.bytes (a - lo) (a - r.lo) (omega arith) (omega arith))
 joined_code lo bytes r rest a false false touch outside second =
     let whole : within lo (length (bytes ++ r.bytes)) a ≡ false =
-        let sum = length-append bytes r.bytes in
-        grind (arith, nat_tests) in
+    let sum = length-append bytes r.bytes in
+    grind (arith, nat_tests) in
     rw whole refl
 
 -- a range in front of runs has its own bytes, and leaves theirs

@@ -6,19 +6,19 @@
 //! field by field, `run` gives the executable bytes. The definitions in specs/ say the same of the whole file.
 #![tactic(auto)]
 
-pub mod limit;
 pub mod fault;
 mod field;
 mod head;
 mod header;
 mod headers;
 pub mod image;
+pub mod limit;
 pub mod reader;
 pub mod run;
 
-pub use limit::admit;
 pub use fault::ImageFault;
 pub use image::{Headers, Image, Phdr, Segment, Segments};
+pub use limit::admit;
 pub use reader::{ReadImage, read_image};
 pub use run::{Run, runs};
 

@@ -49,9 +49,5 @@ fn has_too_much_code(segments: &[Segment]) -> bool
 fn code_len(segment: &Segment) -> u32
     ensures { result ≡ code_size (segment.now ∷ []) }
 {
-    if segment.exec {
-        segment.range.len()
-    } else {
-        0
-    }
+    if segment.exec { segment.range.len() } else { 0 }
 }

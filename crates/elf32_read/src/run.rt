@@ -74,7 +74,12 @@ impl Joining {
 
     /// These runs with a segment behind them: where it is executable its bytes are joined to the last run that it
     /// touches, or begin a new one.
-    fn with_segment(self, alloc: Global, segment: &Segment, bytes: &[u8]) -> Result<Joining, NoMemory>
+    fn with_segment(
+        self,
+        alloc: Global,
+        segment: &Segment,
+        bytes: &[u8],
+    ) -> Result<Joining, NoMemory>
         requires { IsFilled bytes.now segment.now }
         ensures { IfOk result
             (λ more. (rest : List Mapped) → runs_with bytes.now more rest ≡ runs_with bytes.now self (segment.now ∷ rest)) }
@@ -107,7 +112,7 @@ impl Joining {
 fn run_at(alloc: Global, last: Option<Run>, lo: u32, done: &mut Vec<Run>) -> Result<Run, NoMemory>
     ensures { IfOk result
         (λ run. (added : List ℕ) (rest : List Made)
-            → done.new.items ++ join_run run.lo (run.bytes ++ added) rest ≡ done.old.items ++ join_last last (join_run lo added rest)) }
+        → done.new.items ++ join_run run.lo (run.bytes ++ added) rest ≡ done.old.items ++ join_last last (join_run lo added rest)) }
 {
     let Some(run) = last else {
         return Ok(new_run(alloc, lo));
