@@ -1,8 +1,8 @@
 //! The limits of what is rewritten.
 
-ghost use Rattle.std.specs.Prelude.{◌≡◌, ◌∷◌, [], nat_lt};
+ghost use Rattle.std.specs.Prelude.{◌≡◌, ◌∷◌, [], None, Some, MatchResult, nat_lt};
 ghost use Rattle.elf32_read.specs.Faults.{code_size};
-ghost use Rattle.elf32_read.specs.Limits.{exceeded, answer_of};
+ghost use Rattle.elf32_read.specs.Limits.{exceeded};
 
 use crate::fault::ImageFault;
 use crate::image::{Image, Segment};
@@ -20,7 +20,7 @@ const MOST_HEADERS: usize = 61;
 /// `CodeTooLarge` where the executable segments have more than 4,194,304 bytes together; else `HeadersFull` where
 /// there are more than 61 program headers.
 pub fn admit(image: &Image) -> Result<(), ImageFault>
-    ensures { result ≡ answer_of (exceeded image.now) }
+    ensures { MatchResult result (λ _. exceeded image.now ≡ None) (λ fault. exceeded image.now ≡ Some fault) }
 {
     if has_too_much_code(image.segments.as_slice()) {
         return Err(ImageFault::CodeTooLarge);

@@ -5,7 +5,6 @@ use crate::limit::admit;
 use crate::reader::{ReadImage, read_image};
 use crate::run::runs;
 use std::alloc::Global;
-use std::process::Abort;
 use std::test::Fail;
 
 /// A file with one header that maps its code: `mov eax, 1`, `mov ebx, 7`, `int 0x80`.
@@ -112,9 +111,10 @@ fn keeps_to_the_limits(rt: HostRuntime) -> Result<(), Fail> {
 }
 
 /// The first address and the number of bytes of each run.
-fn places(rt: &impl Abort, alloc: Global, file: &[u8]) -> Result<Vec<(u32, usize)>, Fail> {
+#[tactic(auto, using(crate::specs::Limits::limit_law))]
+fn places(alloc: Global, file: &[u8]) -> Result<Vec<(u32, usize)>, Fail> {
     let image = read_image(alloc, file)?;
-    assert_eq!(rt; admit(&image), Ok(()));
+    admit(&image)?;
     let found = runs(alloc, &image, file)?;
     let mut places = Vec::new(alloc);
     for run in &found {
@@ -125,23 +125,23 @@ fn places(rt: &impl Abort, alloc: Global, file: &[u8]) -> Result<Vec<(u32, usize
 
 #[test]
 fn joins_runs_that_touch(rt: HostRuntime) -> Result<(), Fail> {
-    let one = places(&rt, rt.alloc(), &TWO_HEADERS)?;
+    let one = places(rt.alloc(), &TWO_HEADERS)?;
     assert_eq!(rt; one.as_slice(), [(0x0804_8074, 12)].as_slice());
 
     // The second segment, at 0x08049000, may be executed; the first goes up to it, or to one byte before it.
     let second = [(93, 0x90), (94, 0x04), (95, 0x08), (100, 4), (108, 5)];
     let touching = edited(edited(TWO_HEADERS, second), [(72, 0x8C), (73, 0x0F)]);
-    let joined = places(&rt, rt.alloc(), &touching)?;
+    let joined = places(rt.alloc(), &touching)?;
     assert_eq!(rt; joined.as_slice(), [(0x0804_8074, 0x1F8C)].as_slice());
 
     let gap = edited(touching, [(72, 0x8B)]);
-    let apart = places(&rt, rt.alloc(), &gap)?;
+    let apart = places(rt.alloc(), &gap)?;
     assert_eq!(rt;
         apart.as_slice(),
         [(0x0804_8074, 0xF8B), (0x0804_9000, 0x1000)].as_slice()
     );
 
-    let none = places(&rt, rt.alloc(), &edited(ONE_HEADER, [(76, 4)]))?;
+    let none = places(rt.alloc(), &edited(ONE_HEADER, [(76, 4)]))?;
     assert_eq!(rt; none.len(), 0);
     Ok(())
 }
