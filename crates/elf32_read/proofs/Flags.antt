@@ -15,3 +15,9 @@ pub has_flag_2 : (n : ℕ) → not (nat_eq (bit_and n 2) 0) ≡ nat_eq (n / 2 % 
 has_flag_2 n =
     let masked : bit_and n 2 ≡ n / 2 % 2 * 2 = and_pow n 1 in
     grind (arith, nat_tests)
+
+-- a test of the flag 4
+pub has_flag_4 : (n : ℕ) → not (nat_eq (bit_and n 4) 0) ≡ nat_eq (n / 4 % 2) 1
+has_flag_4 n =
+    let masked : bit_and n 4 ≡ n / 4 % 2 * 4 = and_pow n 2 in
+    grind (arith, nat_tests)

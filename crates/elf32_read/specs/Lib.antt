@@ -3,4 +3,10 @@ pub mod Faults
 pub mod Load
 pub mod Runs
 pub mod Reading
+pub mod Whole
+pub mod Segments
+pub mod Loaded
+pub mod Limits
+pub mod Joining
 pub mod Thin
+pub mod RunCount

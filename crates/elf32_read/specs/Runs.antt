@@ -1,5 +1,5 @@
 -- The maximal ranges of executable addresses. This project's own.
-use Rattle.std.specs.Prelude.{ℕ, ◌+◌, ◌-◌, ◌<◌, ◌≤◌, List, [], ◌∷◌, ◌++◌, length, take, drop, replicate, Option, None, ◌==◌, if◌then◌else◌, slice_get}
+use Rattle.std.specs.Prelude.{ℕ, ◌+◌, ◌-◌, ◌<◌, ◌≤◌, List, [], ◌∷◌, ◌++◌, length, take, drop, replicate, Option, Some, None, ◌==◌, if◌then◌else◌, slice_get}
 use Rattle.mv_base.specs.Memory.{within}
 use Rattle.elf32_read.specs.declared.image.Segment.{Segment}
 use Rattle.elf32_read.specs.declared.run.Run.{Run}
@@ -9,11 +9,21 @@ use Rattle.elf32_read.specs.Fields.{segments}
 unfoldable pub segment_bytes : List ℕ → Segment → List ℕ
 segment_bytes b s = take s.filesz (drop s.offset b) ++ replicate (s.range.len - s.filesz) 0
 
+-- a segment's bytes of the file lie in the file, and are no more than its addresses
+pub record IsFilled (b : List ℕ) (s : Segment) : Type 0 where
+  pub filled : s.filesz ≤ s.range.len
+  pub inside : 0 < s.filesz → s.offset + s.filesz ≤ length b
+
 -- a range in front of runs, joined with the first where they touch
 abbrev pub join_run : ℕ → List ℕ → List Run → List Run
 join_run lo bytes [] = record { lo = lo; bytes = bytes } ∷ []
 join_run lo bytes (r ∷ rs) =
     if lo + length bytes == r.lo then record { lo = lo; bytes = bytes ++ r.bytes } ∷ rs else record { lo = lo; bytes = bytes } ∷ r ∷ rs
+
+-- a run that may get more bytes, in front of runs
+abbrev pub join_last : Option Run → List Run → List Run
+join_last None rs = rs
+join_last (Some r) rs = join_run r.lo r.bytes rs
 
 abbrev pub runs_in : List ℕ → List Segment → List Run
 runs_in b [] = []

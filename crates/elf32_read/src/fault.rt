@@ -4,7 +4,7 @@ use thiserror::Error;
 
 /// The first fault of a file, in the order of the variants; a number is the program header's index, from 0.
 /// The order is this project's own, the fields are those of the System V gABI.
-#[derive(Clone, Copy, Debug, Drop, Error)]
+#[derive(Clone, Copy, Debug, PartialEq, Eq, Drop, Error)]
 pub enum ImageFault {
     #[error("the file has fewer than 52 bytes")]
     ShortHeader,
@@ -48,6 +48,4 @@ pub enum ImageFault {
     CodeTooLarge,
     #[error("there are more than 61 program headers")]
     HeadersFull,
-    #[error("the file isn't of the one form that is rewritten yet")]
-    NotYet,
 }

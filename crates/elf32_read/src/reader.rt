@@ -1,15 +1,15 @@
 //! Reading an image, field by field.
 
-ghost use Rattle.std.specs.Prelude.{◌≡◌, ◌≤◌, IfOk, length, true, take, drop};
-ghost use Rattle.elf32_read.specs.Fields.{header_at, ident_rest as rest_of_ident};
-ghost use Rattle.elf32_read.specs.Faults.{is_thin};
+ghost use Rattle.std.specs.Prelude.{◌≡◌, ◌≤◌, IfOk, length, None, take, drop};
+ghost use Rattle.elf32_read.specs.Fields.{headers as headers_of, ident_rest};
+ghost use Rattle.elf32_read.specs.Faults.{load_refusal};
 ghost use Rattle.elf32_read.specs.Reading.{IsImage, IsRead};
 
 use crate::fault::ImageFault;
 use crate::field::u32_field;
-use crate::header::{phdr_at, segment_of};
+use crate::head::head_fault;
+use crate::headers::{has_load, headers, headers_fault, segments};
 use crate::image::{Headers, Image, Phdr, Segments};
-use crate::thin::{HEADER_PLACE, has_thin_head, is_thin_header};
 use mv_base::NoMemory;
 use std::alloc::Global;
 use thiserror::Error;
@@ -34,32 +34,35 @@ impl From<NoMemory> for ReadImage {
     }
 }
 
-/// The image that the bytes are, or the first fault.
+/// The image that the bytes are, or their first fault in the order of `ImageFault`. The limits of what is
+/// rewritten are no faults here; `admit` looks for them.
 ///
 /// # Errors
 ///
-/// `Bad` with the fault `NotYet` exactly where the file isn't of the one form that is rewritten yet; `NoMemory`.
+/// `Bad` with the first fault, exactly where there is one; `NoMemory`.
 pub fn read_image(alloc: Global, bytes: &[u8]) -> Result<Image, ReadImage>
     ensures { IsRead bytes.now result }
 {
-    if !has_thin_head(bytes) {
-        return Err(ReadImage::Bad(ImageFault::NotYet));
+    if let Some(fault) = head_fault(bytes) {
+        return Err(ReadImage::Bad(fault));
     }
-    let header = phdr_at(bytes, HEADER_PLACE);
-    if !is_thin_header(bytes.len(), &header) {
-        return Err(ReadImage::Bad(ImageFault::NotYet));
+    let headers = headers(alloc, bytes)?;
+    if let Some(fault) = headers_fault(bytes.len() as u64, &headers) {
+        return Err(ReadImage::Bad(fault));
     }
-    Ok(thin_image(alloc, bytes, &header)?)
+    if !has_load(&headers) {
+        return Err(ReadImage::Bad(ImageFault::NoLoad));
+    }
+    Ok(whole_image(alloc, bytes, headers)?)
 }
 
-/// The image of a file of the one form, whose program header this is.
-fn thin_image(alloc: Global, bytes: &[u8], header: &Phdr) -> Result<Image, NoMemory>
-    requires thin { is_thin bytes.now ≡ true }
-    requires header { header.now ≡ header_at bytes.now 52 }
+/// The image of a file with no fault, which has these program headers.
+fn whole_image(alloc: Global, bytes: &[u8], headers: Vec<Phdr>) -> Result<Image, NoMemory>
+    requires whole { load_refusal bytes.now ≡ None }
+    requires headers_are { headers.items ≡ headers_of bytes.now }
     ensures { IfOk result (IsImage bytes.now) }
 {
-    let headers = vec![in alloc; *header]?;
-    let segments = vec![in alloc; segment_of(header)]?;
+    let segments = segments(alloc, &headers)?;
     Ok(Image {
         entry: u32_field(bytes, 24),
         e_flags: u32_field(bytes, 36),
@@ -72,7 +75,7 @@ fn thin_image(alloc: Global, bytes: &[u8], header: &Phdr) -> Result<Image, NoMem
 /// Bytes 7 to 15 of the file.
 fn ident_rest(bytes: &[u8]) -> [u8; 9]
     requires { 16 ≤ length bytes.now }
-    ensures { result ≡ rest_of_ident bytes.now }
+    ensures { result ≡ ident_rest bytes.now }
 {
     let mut ident = [0; 9];
     ident.copy_from_slice(&bytes[7..16]);

@@ -1,6 +1,7 @@
 //! Rewriting a whole file.
 
-ghost use Rattle.std.specs.Prelude.{◌≡◌, ◌≤◌, length, IfOk};
+ghost use Rattle.std.specs.Prelude.{◌≡◌, ◌≤◌, length, None, IfOk};
+ghost use Rattle.elf32_read.specs.Faults.{limit_fault};
 ghost use Rattle.elf32_read.specs.Reading.{IsImage};
 ghost use Rattle.mv_rewrite.specs.Laying.{IsLaid};
 ghost use Rattle.mv_rewrite.specs.Layout.{size};
@@ -8,10 +9,10 @@ ghost use Rattle.mv_rewrite.specs.Rewriting.{IsOutput, IsRewritten};
 ghost use Rattle.mv_rewrite.specs.Stopping.{Simulates};
 
 use crate::file::{added_len, write_image};
-use crate::layout::lay;
+use crate::layout::{LayFault, lay};
 use crate::plan::Plan;
 use crate::sites::sites;
-use elf32_read::{Image, ImageFault, ReadImage, read_image, runs};
+use elf32_read::{Image, ImageFault, ReadImage, admit, read_image, runs};
 use mv_base::{NoMemory, Range};
 use std::alloc::Global;
 
@@ -27,9 +28,11 @@ pub struct Rewritten {
     pub counters: u32,
 }
 
-/// Why a file is not rewritten: its first fault, or want of memory.
+/// Why a file is not rewritten: its first fault, no room for the added block, which has this many bytes, or want of
+/// memory.
 pub enum RewriteFault {
     Image(ImageFault),
+    NoRoom(u64),
     NoMemory,
 }
 
@@ -44,30 +47,58 @@ impl From<NoMemory> for RewriteFault {
     }
 }
 
+impl From<LayFault> for RewriteFault {
+    ghost use Rattle.std.specs.Prelude.{◌≡◌};
+    ghost use Rattle.mv_rewrite.specs.Rewriting.{laid_fault};
+
+    ghost from_gives = { λ fault e. e ≡ laid_fault fault };
+
+    fn from(fault: LayFault) -> RewriteFault {
+        match fault {
+            LayFault::NoRoom(size) => RewriteFault::NoRoom(size),
+            LayFault::NoMemory => RewriteFault::NoMemory,
+        }
+    }
+}
+
 /// The output of a static executable: its code relocated, a table from old to new addresses, and the input
 /// whole, no longer executable. It follows the input's runs, shows nothing else on the way, and stops where
 /// they stop.
 ///
 /// # Errors
 ///
-/// `Image` with the file's first fault; `NoMemory` where memory is wanted.
+/// `Image` with the file's first fault, where it has one; else `NoRoom` with the size of the added block, where no
+/// place has room for it; `NoMemory` where memory is wanted.
 pub fn rewrite(alloc: Global, bytes: &[u8]) -> Result<Rewritten, RewriteFault>
     requires { length bytes.now ≤ FILE_LIMIT }
     ensures rewritten { IsRewritten bytes.now result }
     ensures simulates { IfOk result (λ r. Simulates bytes.now r.bytes.items) }
 {
     match read_image(alloc, bytes) {
-        Ok(image) => Ok(rewrite_image(alloc, &image, bytes)?),
+        Ok(image) => rewrite_image(alloc, &image, bytes),
         Err(ReadImage::Bad(fault)) => Err(RewriteFault::Image(fault)),
         Err(ReadImage::NoMemory) => Err(RewriteFault::NoMemory),
     }
 }
 
 /// The output of a file whose image this is.
-fn rewrite_image(alloc: Global, image: &Image, bytes: &[u8]) -> Result<Rewritten, NoMemory>
+fn rewrite_image(alloc: Global, image: &Image, bytes: &[u8]) -> Result<Rewritten, RewriteFault>
     requires image { IsImage bytes.now image.now }
     requires limit { length bytes.now ≤ FILE_LIMIT }
-    ensures { IfOk result (λ r. IsOutput bytes.now r) }
+    ensures { IsRewritten bytes.now result }
+{
+    match admit(image) {
+        Ok(()) => rewrite_admitted(alloc, image, bytes),
+        Err(fault) => Err(RewriteFault::Image(fault)),
+    }
+}
+
+/// The output of a file whose image this is, and within the limits.
+fn rewrite_admitted(alloc: Global, image: &Image, bytes: &[u8]) -> Result<Rewritten, RewriteFault>
+    requires image { IsImage bytes.now image.now }
+    requires admitted { limit_fault bytes.now ≡ None }
+    requires limit { length bytes.now ≤ FILE_LIMIT }
+    ensures { IsRewritten bytes.now result }
 {
     let runs = runs(alloc, image, bytes)?;
     let sites = sites(alloc, &runs)?;
