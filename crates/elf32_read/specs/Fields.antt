@@ -5,12 +5,15 @@ use Rattle.mv_base.specs.Bytes.{half_at, word_at}
 use Rattle.elf32_read.specs.declared.image.Phdr.{Phdr}
 use Rattle.elf32_read.specs.declared.image.Segment.{Segment}
 
+-- the address of the first instruction
 abbrev pub entry_at : List ℕ → ℕ
 entry_at b = word_at b 24
 
+-- the place of the first program header in the file
 abbrev pub header_offset : List ℕ → ℕ
 header_offset b = word_at b 28
 
+-- how many program headers there are
 abbrev pub header_count : List ℕ → ℕ
 header_count b = half_at b 44
 
@@ -31,7 +34,7 @@ header_at b p = record {
 unfoldable pub headers : List ℕ → List Phdr
 headers b = map (λ i. header_at b (header_offset b + 32 * i)) (range_with_len 0 (header_count b))
 
--- PT_LOAD
+-- a header whose segment is to be loaded: PT_LOAD
 abbrev pub is_load : Phdr → Bool
 is_load h = h.kind == 1
 
@@ -39,16 +42,19 @@ is_load h = h.kind == 1
 abbrev pub maps : Phdr → Bool
 maps h = is_load h && nat_lt 0 h.memsz
 
--- PF_X, PF_W and PF_R
+-- its segment may be executed: PF_X
 abbrev pub has_exec : Phdr → Bool
 has_exec h = h.flags % 2 == 1
 
+-- its segment may be written: PF_W
 abbrev pub has_write : Phdr → Bool
 has_write h = h.flags / 2 % 2 == 1
 
+-- its segment may be read: PF_R
 abbrev pub has_read : Phdr → Bool
 has_read h = h.flags / 4 % 2 == 1
 
+-- the segment of a header that maps addresses
 abbrev pub segment_of : Phdr → Option Segment
 segment_of h =
     if maps h then Some (record { range = record { lo = h.vaddr; len = h.memsz }; offset = h.offset; filesz = h.filesz; write = has_write h; exec = has_exec h })

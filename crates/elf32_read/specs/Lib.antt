@@ -1,3 +1,4 @@
+-- the definitions that this crate's contracts, and those of the crates above, cite
 pub mod Fields
 pub mod Faults
 pub mod Load
@@ -8,5 +9,4 @@ pub mod Segments
 pub mod Loaded
 pub mod Limits
 pub mod Joining
-pub mod Thin
 pub mod RunCount

@@ -11,6 +11,7 @@ segment_cell b s a =
     Some (record { byte = if nat_lt (a - s.range.lo) s.filesz then slice_index b (s.offset + (a - s.range.lo)) else 0; write = s.write; exec = s.exec })
     else None
 
+-- the cell that the first segment with an address has there
 abbrev pub load_in : List ℕ → List Segment → Memory
 load_in b [] a = None
 load_in b (s ∷ ss) a = first_of (segment_cell b s a) (load_in b ss a)

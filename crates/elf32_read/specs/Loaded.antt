@@ -1,9 +1,9 @@
 -- What the memory holds of a file that has none of the faults that keep it from being loaded.
-use Rattle.std.specs.Prelude.{◌≡◌, ℕ, zero, suc, ◌+◌, ◌-◌, ◌<◌, ◌≤◌, Bool, true, false, ◌&&◌, List, [], ◌∷◌, length, Option, Some, None, nat_lt, slice_get, slice_index, if◌then◌else◌}
-use Rattle.std.proofs.Common.{refl, ap, sym, ◌∙◌, arith}
+use Rattle.std.specs.Prelude.{◌≡◌, ℕ, zero, suc, ◌+◌, ◌-◌, ◌<◌, ◌≤◌, Bool, true, false, ◌&&◌, List, [], ◌∷◌, Option, Some, None, nat_lt, slice_get, slice_index, if◌then◌else◌}
+use Rattle.std.proofs.Common.{refl, ap, ◌∙◌, arith}
 use Rattle.std.proofs.lemmas.Bool.Decides.{nat_tests}
 use Rattle.mv_base.specs.Bytes.{AreBytes}
-use Rattle.mv_base.specs.Memory.{Cell, Memory, IsMemory, within, first_of, cell_is, is_executable, is_writable}
+use Rattle.mv_base.specs.Memory.{Cell, IsMemory, within, first_of, cell_is, is_executable, is_writable}
 use Rattle.elf32_read.specs.declared.image.Segment.{Segment}
 use Rattle.elf32_read.specs.Fields.{segments}
 use Rattle.elf32_read.specs.Faults.{load_refusal}
@@ -88,6 +88,7 @@ load_in-within b from (t ∷ ss) (suc i) s a placed is above below =
     let outside : within t.range.lo t.range.len a ≡ false = grind (arith, nat_tests) in
     rw outside (load_in-within b (t.range.lo + t.range.len) ss i s a placed.1 is above below)
 
+-- the same, for a file with no fault
 pub load-within : (b : List ℕ) → load_refusal b ≡ None → (i : ℕ) (s : Segment) (a : ℕ) → slice_get (segments b) i ≡ Some s
     → s.range.lo ≤ a → a < s.range.lo + s.range.len
     → load b a ≡ Some (record { byte = segment_byte b s (a - s.range.lo); write = s.write; exec = s.exec })
@@ -121,21 +122,23 @@ not_both-load b whole a c is =
     let found = ComesFrom-load b whole a c is in
     ap (λ w. w && c.exec) found.cell_is.write_is ∙ ap (λ e. found.segment.write && e) found.cell_is.exec_is ∙ found.placed.not_both
 
--- what can be executed there cannot be written
+-- a cell that can be executed cannot be written
 fixed_by : (m : Option Cell) → ((c : Cell) → m ≡ Some c → (c.write && c.exec) ≡ false) → cell_is (λ c. c.exec) m ≡ true → cell_is (λ c. c.write) m ≡ false
 fixed_by None not_both exec = refl
 fixed_by (Some c) not_both exec =
     let both = not_both c refl in
     grind (arith, nat_tests)
 
+-- what can be executed in the memory of such a file cannot be written
 pub executable_is_fixed-load : (b : List ℕ) → load_refusal b ≡ None → (a : ℕ) → is_executable (load b) a ≡ true → is_writable (load b) a ≡ false
 executable_is_fixed-load b whole a exec = fixed_by (load b a) (λ c is. not_both-load b whole a c is) exec
 
--- nothing is mapped there at or above 0xFFFFF000
+-- no cell, where each would be absurd
 high_by : (m : Option Cell) → ((c : Cell) → m ≡ Some c → ⊥) → m ≡ None
 high_by None none = refl
 high_by (Some c) none = absurd (none c refl)
 
+-- nothing is mapped there at or above 0xFFFFF000
 pub load-high : (b : List ℕ) → load_refusal b ≡ None → (a : ℕ) → 0xFFFFF000 ≤ a → load b a ≡ None
 load-high b whole a high =
     high_by (load b a) (λ c is.

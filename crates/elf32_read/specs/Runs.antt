@@ -25,6 +25,7 @@ abbrev pub join_last : Option Run → List Run → List Run
 join_last None rs = rs
 join_last (Some r) rs = join_run r.lo r.bytes rs
 
+-- the runs of segments: those that are executable, joined where they touch
 abbrev pub runs_in : List ℕ → List Segment → List Run
 runs_in b [] = []
 runs_in b (s ∷ ss) = if s.exec then join_run s.range.lo (segment_bytes b s) (runs_in b ss) else runs_in b ss

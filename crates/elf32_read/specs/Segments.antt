@@ -1,12 +1,11 @@
 -- What holds of the segments, the memory and the runs of a file that has none of the faults that keep it from being loaded.
-use Rattle.std.specs.Prelude.{◌≡◌, ℕ, zero, suc, ◌+◌, ◌-◌, ◌*◌, ◌/◌, ◌%◌, ◌^◌, ◌<◌, ◌≤◌, Bool, true, false, ◌&&◌, List, [], ◌∷◌, ◌++◌, length, take, drop, replicate, Option, Some, None, nat_lt, nat_eq, ◌==◌, slice_get, slice_index, slice_index_or, if◌then◌else◌}
+use Rattle.std.specs.Prelude.{◌≡◌, ℕ, zero, suc, ◌+◌, ◌-◌, ◌*◌, ◌<◌, ◌≤◌, Bool, true, false, ◌&&◌, List, [], ◌∷◌, ◌++◌, length, take, drop, replicate, Option, Some, None, nat_lt, ◌==◌, slice_get, slice_index, slice_index_or, if◌then◌else◌}
 use Rattle.std.specs.List.{All, filter_map}
-use Rattle.std.proofs.Common.{refl, ap, sym, subst, ◌∙◌, arith, get_or, min, append_assoc, length-append, length-take, length-drop}
+use Rattle.std.proofs.Common.{refl, ap, sym, subst, ◌∙◌, arith, get_or, min, length-append, length-take, length-drop}
 use Rattle.std.proofs.lemmas.Bool.Decides.{nat_tests}
 use Rattle.std.proofs.lemmas.Option.{slice_get-get_or}
 use Rattle.std.proofs.lemmas.List.{length-replicate, get_or-append-add, get_or-take, get_or-drop, get_or-replicate, get_or_append_left, get_or-append_right}
-use Rattle.mv_base.specs.Bytes.{AreBytes}
-use Rattle.mv_base.specs.Memory.{Cell, IsMemory, within, first_of, exec_byte, exec_byte_of}
+use Rattle.mv_base.specs.Memory.{Cell, within, first_of, exec_byte, exec_byte_of}
 use Rattle.elf32_read.specs.declared.image.Phdr.{Phdr}
 use Rattle.elf32_read.specs.declared.image.Segment.{Segment}
 use Rattle.elf32_read.specs.declared.run.Run.{Run}
@@ -14,7 +13,7 @@ use Rattle.elf32_read.specs.Fields.{headers, maps, has_exec, has_write, segment_
 use Rattle.elf32_read.specs.Faults.{free_after, load_refusal}
 use Rattle.elf32_read.specs.Load.{segment_cell, load_in, load}
 use Rattle.elf32_read.specs.Runs.{IsFilled, segment_bytes, join_run, runs_in, runs_of, code_of, AreApart}
-use Rattle.elf32_read.specs.Whole.{IsSoundSegment, IsSoundHeader, AreSound, AreSound-whole}
+use Rattle.elf32_read.specs.Whole.{IsSoundHeader, AreSound, AreSound-whole}
 
 -- a segment of a file with no fault, whose addresses lie from an address on
 pub record IsPlaced (b : List ℕ) (from : ℕ) (s : Segment) : Type 0 where
@@ -123,17 +122,19 @@ pub slice_index-segment_bytes : (b : List ℕ) (s : Segment) (k : ℕ) → IsFil
 unfolding segment_bytes
 slice_index-segment_bytes b s k fits below = byte_by b s k (nat_lt k s.filesz) refl fits below
 
+-- the same, as elements of the list
 pub slice_get-segment_bytes : (b : List ℕ) (s : Segment) (k : ℕ) → IsFilled b s → k < s.range.len → slice_get (segment_bytes b s) k ≡ Some (segment_byte b s k)
 slice_get-segment_bytes b s k fits below =
     slice_get-get_or (segment_bytes b s) k 0 (rw (length-segment_bytes b s fits) below)
     ∙ ap (λ x. Some x) (slice_index-segment_bytes b s k fits below)
 
--- the bytes of two lists in one
+-- an element of the first of two lists
 slice_get-append_left : (xs ys : List ℕ) (k : ℕ) → k < length xs → slice_get (xs ++ ys) k ≡ slice_get xs k
 slice_get-append_left xs ys k below =
     slice_get-get_or (xs ++ ys) k 0 (simp length-append (omega arith))
     ∙ ap (λ x. Some x) (get_or_append_left xs ys 0 k below) ∙ sym (slice_get-get_or xs k 0 below)
 
+-- an element of the second of two lists
 slice_get-append_right : (xs ys : List ℕ) (k j : ℕ) → k ≡ length xs + j → j < length ys → slice_get (xs ++ ys) k ≡ slice_get ys j
 slice_get-append_right xs ys k j is below =
     slice_get-get_or (xs ++ ys) k 0 (simp length-append (omega arith))
@@ -143,6 +144,7 @@ slice_get-append_right xs ys k j is below =
 pub within_bounds : (lo len a : ℕ) → within lo len a ≡ true → (lo ≤ a) × (a < lo + len)
 within_bounds lo len a inside = (grind (arith, nat_tests), grind (arith, nat_tests))
 
+-- two bounds as a test of a range
 pub within-bounds : (lo len a : ℕ) → lo ≤ a → a < lo + len → within lo len a ≡ true
 within-bounds lo len a above below = grind (arith, nat_tests)
 
@@ -175,6 +177,7 @@ join_by lo bytes r rs a true touch =
     joined_code lo bytes r (code_of rs a) a (within lo (length bytes) a) (within r.lo (length r.bytes) a) (grind (arith, nat_tests)) refl refl
 join_by lo bytes r rs a false touch = refl
 
+-- the same, for any runs
 pub code_of-join_run : (lo : ℕ) (bytes : List ℕ) (rs : List Run) (a : ℕ)
     → code_of (join_run lo bytes rs) a ≡ (if within lo (length bytes) a then slice_get bytes (a - lo) else code_of rs a)
 code_of-join_run lo bytes [] a = refl
@@ -210,13 +213,14 @@ apart_by from lo bytes r rs false touch above some low apart =
     let gap : lo + length bytes + 1 ≤ r.lo = grind (arith, nat_tests) in
     (above, some, low, (gap, apart.1, apart.2, apart.3))
 
+-- the same, for any runs
 pub AreApart-join_run : (from lo : ℕ) (bytes : List ℕ) (rs : List Run) → from ≤ lo → 0 < length bytes → lo + length bytes ≤ 0xFFFFF000
     → AreApart (lo + length bytes) rs → AreApart from (join_run lo bytes rs)
 AreApart-join_run from lo bytes [] above some low apart = (above, some, low, tt)
 AreApart-join_run from lo bytes (r ∷ rs) above some low apart =
     apart_by from lo bytes r rs (lo + length bytes == r.lo) refl above some low apart
 
--- the runs of placed segments stand apart
+-- a placed segment in front of runs that stand apart
 placed_by : (b : List ℕ) (from : ℕ) (s : Segment) (rs : List Run) (t : Bool) → IsPlaced b from s → AreApart (s.range.lo + s.range.len) rs
     → AreApart from (if t then join_run s.range.lo (segment_bytes b s) rs else rs)
 placed_by b from s rs true placed apart =
@@ -228,6 +232,7 @@ placed_by b from s rs false placed apart =
     let above = placed.above in
     AreApart-below from (s.range.lo + s.range.len) rs (omega arith) apart
 
+-- the runs of placed segments stand apart
 pub AreApart-runs_in : (b : List ℕ) (from : ℕ) (ss : List Segment) → ArePlaced b from ss → AreApart from (runs_in b ss)
 AreApart-runs_in b from [] placed = tt
 AreApart-runs_in b from (s ∷ ss) placed =

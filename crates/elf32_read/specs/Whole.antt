@@ -1,15 +1,14 @@
 -- What holds of a file that has none of the faults that keep it from being loaded. The fields are those of ELF32; the faults are this project's own.
-use Rattle.std.specs.Prelude.{◌≡◌, ◌≢◌, ℕ, zero, suc, ◌+◌, ◌*◌, ◌/◌, ◌%◌, ◌^◌, ◌<◌, ◌≤◌, Bool, true, false, not, ◌&&◌, ◌||◌, List, [], ◌∷◌, length, map, Option, Some, None, nat_lt, nat_eq, ◌==◌, slice_index, slice_index_or, if◌then◌else◌}
-use Rattle.std.specs.List.{All, range_with_len, filter_map, list_any}
-use Rattle.std.proofs.Common.{refl, ap, sym, subst, ◌∙◌, zero-add, arith}
+use Rattle.std.specs.Prelude.{◌≡◌, ◌≢◌, ℕ, zero, suc, ◌+◌, ◌*◌, ◌/◌, ◌%◌, ◌^◌, ◌<◌, ◌≤◌, Bool, true, false, not, ◌&&◌, ◌||◌, List, [], ◌∷◌, length, Option, Some, None, nat_lt, ◌==◌, slice_index, slice_index_or, if◌then◌else◌}
+use Rattle.std.specs.List.{All, list_any}
+use Rattle.std.proofs.Common.{refl, ap, subst, ◌∙◌, zero-add, arith}
 use Rattle.std.proofs.lemmas.Bool.Decides.{nat_tests}
 use Rattle.std.proofs.lemmas.List.FromFn.{length-map-range_with_len, get_or-map-range_with_len}
 use Rattle.mv_base.specs.Bytes.{half_at, word_at}
 use Rattle.elf32_read.specs.declared.fault.ImageFault.{ImageFault}
 use Rattle.elf32_read.specs.declared.fault.ImageFault.TheVariants.{NoLoad}
 use Rattle.elf32_read.specs.declared.image.Phdr.{Phdr}
-use Rattle.elf32_read.specs.declared.image.Segment.{Segment}
-use Rattle.elf32_read.specs.Fields.{header_at, header_offset, header_count, headers, is_load, maps, has_exec, has_read, has_write, segment_of, segments}
+use Rattle.elf32_read.specs.Fields.{header_at, header_offset, header_count, headers, is_load, maps, has_exec, has_read, has_write}
 use Rattle.elf32_read.specs.Faults.{or_else, fault_if, has_magic, head_fault, segment_fault, header_fault, free_after, headers_fault, load_refusal}
 
 -- an ELF header with no fault
@@ -59,7 +58,7 @@ passed : (t : Bool) (f : ImageFault) (rest : Option ImageFault) → (if t then S
 passed true f rest none = cc
 passed false f rest none = (refl, none)
 
--- an ELF header has no fault exactly where it is sound
+-- an ELF header with no fault is sound
 pub IsSoundHead-from_fault : (b : List ℕ) → head_fault b ≡ None → IsSoundHead b
 unfolding head_fault
 IsSoundHead-from_fault b none =
@@ -88,11 +87,12 @@ IsSoundHead-from_fault b none =
       inside = grind (arith, nat_tests, inside.0);
     }
 
+-- a sound ELF header has no fault
 pub head_fault-sound : (b : List ℕ) → IsSoundHead b → head_fault b ≡ None
 unfolding head_fault
 head_fault-sound b sound = grind (arith, nat_tests)
 
--- a header that maps addresses has no fault exactly where it is sound
+-- a header that maps addresses and has no fault is sound
 pub IsSoundSegment-from_fault : (free i : ℕ) (h : Phdr) → segment_fault free i h ≡ None → IsSoundSegment free h
 unfolding segment_fault
 IsSoundSegment-from_fault free i h none = record {
@@ -103,11 +103,12 @@ IsSoundSegment-from_fault free i h none = record {
   above = grind (arith, nat_tests);
 }
 
+-- a sound header that maps addresses has no fault
 pub segment_fault-sound : (free i : ℕ) (h : Phdr) → IsSoundSegment free h → segment_fault free i h ≡ None
 unfolding segment_fault
 segment_fault-sound free i h sound = grind (arith, nat_tests)
 
--- a header has no fault exactly where it is sound
+-- a header with no fault is sound
 pub IsSoundHeader-from_fault : (len free i : ℕ) (h : Phdr) → header_fault len free i h ≡ None → IsSoundHeader len free h
 unfolding header_fault
 IsSoundHeader-from_fault len free i h none = record {
@@ -118,18 +119,19 @@ IsSoundHeader-from_fault len free i h none = record {
   segment = λ mapped. IsSoundSegment-from_fault free i h (grind (arith, nat_tests));
 }
 
+-- a sound header has no fault
 pub header_fault-sound : (len free i : ℕ) (h : Phdr) → IsSoundHeader len free h → header_fault len free i h ≡ None
 unfolding header_fault
 header_fault-sound len free i h sound =
     let mapped : maps h ≡ true → segment_fault free i h ≡ None = λ m. segment_fault-sound free i h (sound.segment m) in
     grind (arith, nat_tests)
 
--- the first of two faults is none exactly where both are
+-- where the first of two faults is none, both are
 pub or_else-none : (f g : Option ImageFault) → or_else f g ≡ None → (f ≡ None) × (g ≡ None)
 or_else-none None g none = (refl, none)
 or_else-none (Some f) g none = cc
 
--- headers have no fault exactly where they are sound
+-- headers with no fault are sound
 pub AreSound-from_fault : (len free i : ℕ) (hs : List Phdr) → headers_fault len free i hs ≡ None → AreSound len free hs
 unfolding headers_fault
 AreSound-from_fault len free i [] none = tt
@@ -137,6 +139,7 @@ AreSound-from_fault len free i (h ∷ hs) none =
     let both = or_else-none (header_fault len free i h) (headers_fault len (free_after free h) (i + 1) hs) none in
     (IsSoundHeader-from_fault len free i h both.0, AreSound-from_fault len (free_after free h) (i + 1) hs both.1)
 
+-- sound headers have no fault
 pub headers_fault-sound : (len free i : ℕ) (hs : List Phdr) → AreSound len free hs → headers_fault len free i hs ≡ None
 unfolding headers_fault
 headers_fault-sound len free i [] sound = refl
@@ -161,10 +164,11 @@ unfolding load_refusal
 headers_fault-whole b whole =
     (or_else-none (headers_fault (length b) 0 0 (headers b)) _ (or_else-none (head_fault b) _ whole).1).0
 
--- its program headers are sound, and their pages strictly ascend
+-- they are sound
 pub AreSound-whole : (b : List ℕ) → load_refusal b ≡ None → AreSound (length b) 0 (headers b)
 AreSound-whole b whole = AreSound-from_fault (length b) 0 0 (headers b) (headers_fault-whole b whole)
 
+-- their pages strictly ascend
 pub Ascends-whole : (b : List ℕ) → load_refusal b ≡ None → Ascends 0 (headers b)
 Ascends-whole b whole = Ascends-from_sound (length b) 0 (headers b) (AreSound-whole b whole)
 
