@@ -1,11 +1,11 @@
 -- The first fault of a file, test by test.
-use Rattle.std.proofs.Common.{◌≡◌, ℕ, Bool, true, false, not, List, length, Option, Some, None, ap, sym, ◌∙◌}
+use Rattle.std.proofs.Common.{◌≡◌, ℕ, Bool, not, List, length, Option, Some, None, ap, sym, ◌∙◌}
 use Rattle.std.specs.List.{list_any}
 use Rattle.elf32_read.specs.declared.fault.ImageFault.{ImageFault}
 use Rattle.elf32_read.specs.declared.fault.ImageFault.TheVariants.{NoLoad}
 use Rattle.elf32_read.specs.declared.image.Phdr.{Phdr}
 use Rattle.elf32_read.specs.Fields.{headers, is_load}
-use Rattle.elf32_read.specs.Faults.{or_else, fault_if, head_fault, headers_fault, load_refusal}
+use Rattle.elf32_read.specs.Faults.{fault_if, head_fault, headers_fault, load_refusal}
 
 -- the ELF header has a fault
 pub in_head : (b : List ℕ) (found : Option ImageFault) (f : ImageFault) → found ≡ head_fault b → found ≡ Some f → load_refusal b ≡ Some f

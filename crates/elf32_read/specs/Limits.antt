@@ -4,7 +4,7 @@ use Rattle.std.proofs.Common.{ap, ◌∙◌}
 use Rattle.elf32_read.specs.declared.fault.ImageFault.{ImageFault}
 use Rattle.elf32_read.specs.declared.fault.ImageFault.TheVariants.{CodeTooLarge, HeadersFull}
 use Rattle.elf32_read.specs.declared.image.Image.{Image}
-use Rattle.elf32_read.specs.Fields.{headers, header_count, segments}
+use Rattle.elf32_read.specs.Fields.{segments}
 use Rattle.elf32_read.specs.Faults.{or_else, fault_if, code_size, limit_fault}
 use Rattle.elf32_read.specs.Reading.{IsImage}
 use Rattle.elf32_read.specs.Whole.{length-headers}

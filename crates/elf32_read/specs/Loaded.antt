@@ -1,9 +1,9 @@
 -- What the memory holds of a file that has none of the faults that keep it from being loaded.
-use Rattle.std.specs.Prelude.{◌≡◌, ℕ, zero, suc, ◌+◌, ◌-◌, ◌<◌, ◌≤◌, Bool, true, false, ◌&&◌, List, [], ◌∷◌, length, Option, Some, None, nat_lt, slice_get, slice_index, if◌then◌else◌}
-use Rattle.std.proofs.Common.{refl, ap, sym, ◌∙◌, arith}
+use Rattle.std.specs.Prelude.{◌≡◌, ℕ, zero, suc, ◌+◌, ◌-◌, ◌<◌, ◌≤◌, Bool, true, false, ◌&&◌, List, [], ◌∷◌, Option, Some, None, nat_lt, slice_get, slice_index, if◌then◌else◌}
+use Rattle.std.proofs.Common.{refl, ap, ◌∙◌, arith}
 use Rattle.std.proofs.lemmas.Bool.Decides.{nat_tests}
 use Rattle.mv_base.specs.Bytes.{AreBytes}
-use Rattle.mv_base.specs.Memory.{Cell, Memory, IsMemory, within, first_of, cell_is, is_executable, is_writable}
+use Rattle.mv_base.specs.Memory.{Cell, IsMemory, within, first_of, cell_is, is_executable, is_writable}
 use Rattle.elf32_read.specs.declared.image.Segment.{Segment}
 use Rattle.elf32_read.specs.Fields.{segments}
 use Rattle.elf32_read.specs.Faults.{load_refusal}

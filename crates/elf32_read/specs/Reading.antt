@@ -1,5 +1,5 @@
 -- What reading a file gives. This project's own.
-use Rattle.std.specs.Prelude.{◌≡◌, ℕ, List, Option, Some, None, Result, Ok, Err}
+use Rattle.std.specs.Prelude.{◌≡◌, ℕ, List, Some, None, Result, Ok, Err}
 use Rattle.mv_base.specs.Bytes.{word_at}
 use Rattle.elf32_read.specs.declared.image.Image.{Image}
 use Rattle.elf32_read.specs.declared.reader.ReadImage.{ReadImage}

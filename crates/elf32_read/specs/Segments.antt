@@ -1,12 +1,11 @@
 -- What holds of the segments, the memory and the runs of a file that has none of the faults that keep it from being loaded.
-use Rattle.std.specs.Prelude.{◌≡◌, ℕ, zero, suc, ◌+◌, ◌-◌, ◌*◌, ◌/◌, ◌%◌, ◌^◌, ◌<◌, ◌≤◌, Bool, true, false, ◌&&◌, List, [], ◌∷◌, ◌++◌, length, take, drop, replicate, Option, Some, None, nat_lt, nat_eq, ◌==◌, slice_get, slice_index, slice_index_or, if◌then◌else◌}
+use Rattle.std.specs.Prelude.{◌≡◌, ℕ, zero, suc, ◌+◌, ◌-◌, ◌*◌, ◌<◌, ◌≤◌, Bool, true, false, ◌&&◌, List, [], ◌∷◌, ◌++◌, length, take, drop, replicate, Option, Some, None, nat_lt, ◌==◌, slice_get, slice_index, slice_index_or, if◌then◌else◌}
 use Rattle.std.specs.List.{All, filter_map}
-use Rattle.std.proofs.Common.{refl, ap, sym, subst, ◌∙◌, arith, get_or, min, append_assoc, length-append, length-take, length-drop}
+use Rattle.std.proofs.Common.{refl, ap, sym, subst, ◌∙◌, arith, get_or, min, length-append, length-take, length-drop}
 use Rattle.std.proofs.lemmas.Bool.Decides.{nat_tests}
 use Rattle.std.proofs.lemmas.Option.{slice_get-get_or}
 use Rattle.std.proofs.lemmas.List.{length-replicate, get_or-append-add, get_or-take, get_or-drop, get_or-replicate, get_or_append_left, get_or-append_right}
-use Rattle.mv_base.specs.Bytes.{AreBytes}
-use Rattle.mv_base.specs.Memory.{Cell, IsMemory, within, first_of, exec_byte, exec_byte_of}
+use Rattle.mv_base.specs.Memory.{Cell, within, first_of, exec_byte, exec_byte_of}
 use Rattle.elf32_read.specs.declared.image.Phdr.{Phdr}
 use Rattle.elf32_read.specs.declared.image.Segment.{Segment}
 use Rattle.elf32_read.specs.declared.run.Run.{Run}
@@ -14,7 +13,7 @@ use Rattle.elf32_read.specs.Fields.{headers, maps, has_exec, has_write, segment_
 use Rattle.elf32_read.specs.Faults.{free_after, load_refusal}
 use Rattle.elf32_read.specs.Load.{segment_cell, load_in, load}
 use Rattle.elf32_read.specs.Runs.{IsFilled, segment_bytes, join_run, runs_in, runs_of, code_of, AreApart}
-use Rattle.elf32_read.specs.Whole.{IsSoundSegment, IsSoundHeader, AreSound, AreSound-whole}
+use Rattle.elf32_read.specs.Whole.{IsSoundHeader, AreSound, AreSound-whole}
 
 -- a segment of a file with no fault, whose addresses lie from an address on
 pub record IsPlaced (b : List ℕ) (from : ℕ) (s : Segment) : Type 0 where

@@ -1,15 +1,14 @@
 -- What holds of a file that has none of the faults that keep it from being loaded. The fields are those of ELF32; the faults are this project's own.
-use Rattle.std.specs.Prelude.{◌≡◌, ◌≢◌, ℕ, zero, suc, ◌+◌, ◌*◌, ◌/◌, ◌%◌, ◌^◌, ◌<◌, ◌≤◌, Bool, true, false, not, ◌&&◌, ◌||◌, List, [], ◌∷◌, length, map, Option, Some, None, nat_lt, nat_eq, ◌==◌, slice_index, slice_index_or, if◌then◌else◌}
-use Rattle.std.specs.List.{All, range_with_len, filter_map, list_any}
-use Rattle.std.proofs.Common.{refl, ap, sym, subst, ◌∙◌, zero-add, arith}
+use Rattle.std.specs.Prelude.{◌≡◌, ◌≢◌, ℕ, zero, suc, ◌+◌, ◌*◌, ◌/◌, ◌%◌, ◌^◌, ◌<◌, ◌≤◌, Bool, true, false, not, ◌&&◌, ◌||◌, List, [], ◌∷◌, length, Option, Some, None, nat_lt, ◌==◌, slice_index, slice_index_or, if◌then◌else◌}
+use Rattle.std.specs.List.{All, list_any}
+use Rattle.std.proofs.Common.{refl, ap, subst, ◌∙◌, zero-add, arith}
 use Rattle.std.proofs.lemmas.Bool.Decides.{nat_tests}
 use Rattle.std.proofs.lemmas.List.FromFn.{length-map-range_with_len, get_or-map-range_with_len}
 use Rattle.mv_base.specs.Bytes.{half_at, word_at}
 use Rattle.elf32_read.specs.declared.fault.ImageFault.{ImageFault}
 use Rattle.elf32_read.specs.declared.fault.ImageFault.TheVariants.{NoLoad}
 use Rattle.elf32_read.specs.declared.image.Phdr.{Phdr}
-use Rattle.elf32_read.specs.declared.image.Segment.{Segment}
-use Rattle.elf32_read.specs.Fields.{header_at, header_offset, header_count, headers, is_load, maps, has_exec, has_read, has_write, segment_of, segments}
+use Rattle.elf32_read.specs.Fields.{header_at, header_offset, header_count, headers, is_load, maps, has_exec, has_read, has_write}
 use Rattle.elf32_read.specs.Faults.{or_else, fault_if, has_magic, head_fault, segment_fault, header_fault, free_after, headers_fault, load_refusal}
 
 -- an ELF header with no fault

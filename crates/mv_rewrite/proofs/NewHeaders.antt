@@ -124,13 +124,13 @@ kept_all len len' free free' i j (h ∷ hs) small long le e =
     let q = fine_parts len free i h hs e in
     let fine = fine_more len len free free' h (omega arith) (λ t. omega (arith, le, (q.0.mapped t).first_page)) q.0 in
     let next : free_after free' (kept_header h) ≤ free_after free h =
-        subst (λ n. n ≤ free_after free h) (sym (kept_free free' h))
-          (elim (cases_Bool (maps h)) [
-            | inl t ↦ omega (arith, ap (λ u. cond u ((h.vaddr + h.memsz + 4095) / 4096) free') t, ap (λ u. cond u ((h.vaddr + h.memsz + 4095) / 4096) free) t)
-            | inr t ↦ omega (arith, le, ap (λ u. cond u ((h.vaddr + h.memsz + 4095) / 4096) free') t, ap (λ u. cond u ((h.vaddr + h.memsz + 4095) / 4096) free) t)
-          ]) in
+    subst (λ n. n ≤ free_after free h) (sym (kept_free free' h))
+    (elim (cases_Bool (maps h)) [
+      | inl t ↦ omega (arith, ap (λ u. cond u ((h.vaddr + h.memsz + 4095) / 4096) free') t, ap (λ u. cond u ((h.vaddr + h.memsz + 4095) / 4096) free) t)
+      | inr t ↦ omega (arith, le, ap (λ u. cond u ((h.vaddr + h.memsz + 4095) / 4096) free') t, ap (λ u. cond u ((h.vaddr + h.memsz + 4095) / 4096) free) t)
+    ]) in
     fine_join len' free' j (kept_header h) (map kept_header hs) (kept_fine len len' free' h small long fine)
-      (kept_all len len' (free_after free h) (free_after free' (kept_header h)) (i + 1) (j + 1) hs small long next q.1)
+    (kept_all len len' (free_after free h) (free_after free' (kept_header h)) (i + 1) (j + 1) hs small long next q.1)
 
 -- the same, where headers from one on lie above the block
 kept_above : (len len' free free' i j : ℕ) (h : Phdr) (hs : List Phdr) → len ≤ 67108864 → len + 0x1000 ≤ len' → maps h ≡ true → free' ≤ h.vaddr / 4096 → headers_fault len free i (h ∷ hs) ≡ None → headers_fault len' free' j (map kept_header (h ∷ hs)) ≡ None
@@ -138,10 +138,10 @@ kept_above len len' free free' i j h hs small long m le e =
     let q = fine_parts len free i h hs e in
     let fine = fine_more len len free free' h (omega arith) (λ t. le) q.0 in
     let next : free_after free' (kept_header h) ≤ free_after free h =
-        subst (λ n. n ≤ free_after free h) (sym (kept_free free' h))
-          (omega (arith, ap (λ u. cond u ((h.vaddr + h.memsz + 4095) / 4096) free') m, ap (λ u. cond u ((h.vaddr + h.memsz + 4095) / 4096) free) m)) in
+    subst (λ n. n ≤ free_after free h) (sym (kept_free free' h))
+    (omega (arith, ap (λ u. cond u ((h.vaddr + h.memsz + 4095) / 4096) free') m, ap (λ u. cond u ((h.vaddr + h.memsz + 4095) / 4096) free) m)) in
     fine_join len' free' j (kept_header h) (map kept_header hs) (kept_fine len len' free' h small long fine)
-      (kept_all len len' (free_after free h) (free_after free' (kept_header h)) (i + 1) (j + 1) hs small long next q.1)
+    (kept_all len len' (free_after free h) (free_after free' (kept_header h)) (i + 1) (j + 1) hs small long next q.1)
 
 pub fine_output : (len len' free free' i j : ℕ) (k : Block) (hs : List Phdr) → len ≤ 67108864 → len + 0x1000 ≤ len' → IsBlock len' k → free' ≤ free → free' ≤ k.page → AreApart k hs → headers_fault len free i hs ≡ None
     → headers_fault len' free' j (with_added k.base (block_headers k) hs) ≡ None
@@ -160,25 +160,25 @@ fine_output len len' free free' i j k (h ∷ hs) small long is le low apart e =
           ] in
           ap (λ u. headers_fault len' free' j (cond u (added ++ map kept_header (h ∷ hs)) (kept_header h ∷ with_added k.base added hs))) t
           ∙ fine_block len' free' k is low j (map kept_header (h ∷ hs))
-            (λ f n up. kept_above len len' free f i n h hs small long q.0 (omega (arith, up, page)) e)
+          (λ f n up. kept_above len len' free f i n h hs small long q.0 (omega (arith, up, page)) e)
       | inr t ↦
           let q = fine_parts len free i h hs e in
           let fine = fine_more len len free free' h (omega arith) (λ m. omega (arith, le, (q.0.mapped m).first_page)) q.0 in
           let ends : maps h ≡ true → (h.vaddr + h.memsz + 4095) / 4096 ≤ k.page =
-              λ m. let low : h.vaddr ≤ k.base = ltb-false k.base h.vaddr (sym (ap (λ u. u && ltb k.base h.vaddr) m) ∙ t) in
-                elim (apart.0 m) [
-                  | inl up ↦ absurd (omega (arith, up, low, is.at, is.some))
-                  | inr down ↦ down
-                ] in
+          λ m. let low : h.vaddr ≤ k.base = ltb-false k.base h.vaddr (sym (ap (λ u. u && ltb k.base h.vaddr) m) ∙ t) in
+          elim (apart.0 m) [
+            | inl up ↦ absurd (omega (arith, up, low, is.at, is.some))
+            | inr down ↦ down
+          ] in
           let next : free_after free' (kept_header h) ≤ free_after free h =
-              subst (λ n. n ≤ free_after free h) (sym (kept_free free' h))
-                (elim (cases_Bool (maps h)) [
-                  | inl m ↦ omega (arith, ap (λ u. cond u ((h.vaddr + h.memsz + 4095) / 4096) free') m, ap (λ u. cond u ((h.vaddr + h.memsz + 4095) / 4096) free) m)
-                  | inr m ↦ omega (arith, le, ap (λ u. cond u ((h.vaddr + h.memsz + 4095) / 4096) free') m, ap (λ u. cond u ((h.vaddr + h.memsz + 4095) / 4096) free) m)
-                ]) in
+          subst (λ n. n ≤ free_after free h) (sym (kept_free free' h))
+          (elim (cases_Bool (maps h)) [
+            | inl m ↦ omega (arith, ap (λ u. cond u ((h.vaddr + h.memsz + 4095) / 4096) free') m, ap (λ u. cond u ((h.vaddr + h.memsz + 4095) / 4096) free) m)
+            | inr m ↦ omega (arith, le, ap (λ u. cond u ((h.vaddr + h.memsz + 4095) / 4096) free') m, ap (λ u. cond u ((h.vaddr + h.memsz + 4095) / 4096) free) m)
+          ]) in
           let next_low : free_after free' (kept_header h) ≤ k.page =
-              subst (λ n. n ≤ k.page) (sym (kept_free free' h)) (cond_both (maps h) ((h.vaddr + h.memsz + 4095) / 4096) free' (λ n. n ≤ k.page) ends (λ _. low)) in
+          subst (λ n. n ≤ k.page) (sym (kept_free free' h)) (cond_both (maps h) ((h.vaddr + h.memsz + 4095) / 4096) free' (λ n. n ≤ k.page) ends (λ _. low)) in
           ap (λ u. headers_fault len' free' j (cond u (added ++ map kept_header (h ∷ hs)) (kept_header h ∷ with_added k.base added hs))) t
           ∙ fine_join len' free' j (kept_header h) (with_added k.base added hs) (kept_fine len len' free' h small long fine)
-            (fine_output len len' (free_after free h) (free_after free' (kept_header h)) (i + 1) (j + 1) k hs small long is next next_low apart.1 q.1)
+          (fine_output len len' (free_after free h) (free_after free' (kept_header h)) (i + 1) (j + 1) k hs small long is next next_low apart.1 q.1)
     ]

@@ -78,8 +78,8 @@ pub word_in : (x ns : List ℕ) (p k : ℕ) → Stands x p (words ns) → k < le
 word_in x ns p k s lt fits =
     word_alike x (words ns) (p + 4 * k) (4 * k)
     (λ j below.
-        let e : p + 4 * k + j ≡ p + (4 * k + j) = omega arith in
-        ap (slice_index x) e ∙ s.byte (4 * k + j) (omega (arith, below, lt, length-words ns)))
+    let e : p + 4 * k + j ≡ p + (4 * k + j) = omega arith in
+    ap (slice_index x) e ∙ s.byte (4 * k + j) (omega (arith, below, lt, length-words ns)))
     ∙ word_at-words ns k lt fits
 
 pub words-append : (ms ns : List ℕ) → words (ms ++ ns) ≡ words ms ++ words ns

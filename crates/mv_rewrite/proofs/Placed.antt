@@ -115,9 +115,9 @@ module _ (b : List ℕ) (base : ℕ) (x : List ℕ) (f : Frame) (h : IsPlaced b 
       let inside : (i : ℕ) → i < length w → 32 * p.k + i < 32 * length (sites b) = λ i lt. omega (arith, lt, short, p.among) in
       let place : (i : ℕ) → base + 32 * p.k + i ≡ base + (32 * p.k + i) = λ i. omega arith in
       let byte : (i : ℕ) → i < length w → slice_index (plan_at b base).code (32 * p.k + i) ≡ slice_index w i =
-          λ i lt. p.bytes i (omega (arith, lt, short)) ∙ get_or_append_left w (replicate (slot_len - length w) 0) 0 i lt in
+      λ i lt. p.bytes i (omega (arith, lt, short)) ∙ get_or_append_left w (replicate (slot_len - length w) 0) 0 i lt in
       let cell : (i : ℕ) → i < length w → load x (here + i) ≡ Some (record { byte = slice_index w i; write = false; exec = true }) =
-          λ i lt. ap (load x) (place i) ∙ (h.cells (32 * p.k + i) (omega (arith, code-len, inside i lt)) ∙ ap (λ n. Some (record { byte = n; write = false; exec = true })) (byte i lt)) in
+      λ i lt. ap (load x) (place i) ∙ (h.cells (32 * p.k + i) (omega (arith, code-len, inside i lt)) ∙ ap (λ n. Some (record { byte = n; write = false; exec = true })) (byte i lt)) in
       record {
         byte = λ i lt. ap exec_byte_of (cell i lt);
         fixed = λ i lt. ap (cell_is (λ c. c.write)) (cell i lt);

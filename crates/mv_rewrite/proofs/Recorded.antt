@@ -27,8 +27,8 @@ pub taken : (x part : List ℕ) (p n : ℕ) → length part ≡ n → Stands x p
 taken x part p n len s =
     ext_get_or 0 (take n (drop p x)) part (omega (arith, length-take n (drop p x), length-drop p x, s.room, len))
     (λ i lt.
-        let below : i < n = omega (arith, lt, length-take n (drop p x)) in
-        get_or-take n (drop p x) i 0 below ∙ (get_or-drop p x i 0 ∙ s.byte i (omega (arith, below, len))))
+    let below : i < n = omega (arith, lt, length-take n (drop p x)) in
+    get_or-take n (drop p x) i 0 below ∙ (get_or-drop p x i 0 ∙ s.byte i (omega (arith, below, len))))
 
 -- ---- the words of the record
 
@@ -111,7 +111,7 @@ runs_keep f from dir (r ∷ rs) apart low le =
     let c3 : leb f.table.lo dir ≡ true = le-leb f.table.lo dir low in
     let c4 : leb (dir + 4 * length r.bytes) f.list ≡ true = le-leb (dir + 4 * length r.bytes) f.list (omega (arith, le, more)) in
     and_from _ _ (and_from _ _ (and_from _ _ (and_from _ _ (and_from _ _ c0 c1) c2) c3) c4)
-      (runs_keep f (r.lo + length r.bytes + 1) (dir + 4 * length r.bytes) rs apart.3 (omega (arith, low)) (omega (arith, le, more)))
+    (runs_keep f (r.lo + length r.bytes + 1) (dir + 4 * length r.bytes) rs apart.3 (omega (arith, low)) (omega (arith, le, more)))
 
 abbrev place_len : RunPlace → ℕ
 place_len r = r.len
@@ -182,7 +182,7 @@ module _ (b : List ℕ) (base : ℕ) (is : IsInput b base) where
       ap (λ n. map (run_place_at x) (range_with_len 0 n)) f15
       ∙ (ap (λ g. map g (range_with_len 0 (length (places_of b base)))) (fun_ext run_place_is)
       ∙ places_read x (places_of b base) (0x900 + 64) 0 places_stand
-        (places_fit 0 (base + up (code_len b)) (base + up (code_len b) + up (table_len b)) (runs_of b) is.runs_apart (omega (arith, table_is_len)) (omega (arith, below))))
+      (places_fit 0 (base + up (code_len b)) (base + up (code_len b) + up (table_len b)) (runs_of b) is.runs_apart (omega (arith, table_is_len)) (omega (arith, below))))
 
   pub frame_read : frame_at x ≡ frame_is b base
   unfolding frame_at

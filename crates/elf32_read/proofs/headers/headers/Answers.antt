@@ -1,6 +1,6 @@
 -- The headers are those of the table.
 use Rattle.std.proofs.Common.{◌≡◌, ◌+◌, ◌*◌, ◌∷◌, [], ◌++◌, ap, ◌∙◌, sym, arith}
-use Rattle.elf32_read.specs.Fields.{headers, header_at, header_offset, header_count}
+use Rattle.elf32_read.specs.Fields.{headers, header_at, header_count}
 use Rattle.elf32_read.proofs.Tables.{headers_until, headers_until-more}
 use Rattle.elf32_read.proofs.headers.headers.Goals as goal
 

@@ -1,5 +1,5 @@
 -- A header that maps addresses adds its segment.
-use Rattle.std.proofs.Common.{◌≡◌, ◌++◌, option_to_list, ap, ◌∙◌, sym, append-nil}
+use Rattle.std.proofs.Common.{◌++◌, option_to_list, ap, ◌∙◌, sym, append-nil}
 use Rattle.elf32_read.proofs.Tables.{segments-more}
 use Rattle.elf32_read.proofs.headers.segments.Goals as goal
 use Rattle.elf32_read.proofs.headers.segments.Goals.{in-Some+in_ok-push, in_default}

@@ -1,5 +1,5 @@
 -- The first fault, in the order of the tests.
-use Rattle.std.proofs.Common.{◌≡◌, false, true, not, length, ap, subst, sym, ◌∙◌, arith}
+use Rattle.std.proofs.Common.{not, length, ap, sym, ◌∙◌, arith}
 use Rattle.std.specs.List.{list_any}
 use Rattle.elf32_read.specs.declared.fault.ImageFault.TheVariants.{NoLoad}
 use Rattle.elf32_read.specs.Fields.{is_load}

@@ -3,7 +3,7 @@ use Rattle.std.proofs.Common.{◌≡◌, ◌^◌, ◌+◌, ◌≤◌, true, List
 use Rattle.std.specs.List.{All, filter_map}
 use Rattle.elf32_read.specs.declared.image.Phdr.{Phdr}
 use Rattle.elf32_read.specs.Fields.{headers, maps, segment_of, segments}
-use Rattle.elf32_read.specs.Whole.{IsSoundHead-whole, AreSound-whole, AreSound, All-ends}
+use Rattle.elf32_read.specs.Whole.{IsSoundHead-whole, AreSound-whole, All-ends}
 use Rattle.elf32_read.proofs.reader.whole_image.Goals as goal
 
 pub segments-requires : goal.segments-requires

@@ -1,6 +1,5 @@
 -- The bytes of the file, then zeros, behind what the run has.
 use Rattle.std.proofs.Common.{◌≡◌, ◌++◌, ap, ◌∙◌, ◌-◌, ◌+◌, take, drop, vec_len}
-use Rattle.elf32_read.specs.declared.run.Run.{Run}
 use Rattle.elf32_read.proofs.Bytes.{filled_up}
 use Rattle.elf32_read.proofs.run.extended.Goals as goal
 
