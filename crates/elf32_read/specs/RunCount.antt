@@ -1,7 +1,7 @@
 -- How many runs a file has, and how many bytes they have together. This project's own.
-use Rattle.std.specs.Prelude.{◌≡◌, ℕ, ◌+◌, ◌≤◌, Bool, true, false, List, [], ◌∷◌, ◌++◌, length, Option, Some, None, nat_lt, ◌==◌, if◌then◌else◌}
+use Rattle.std.specs.Prelude.{◌≡◌, ℕ, ◌+◌, ◌≤◌, Bool, true, false, List, [], ◌∷◌, ◌++◌, length, None, nat_lt, ◌==◌, if◌then◌else◌}
 use Rattle.std.specs.List.{filter_map, sum_by}
-use Rattle.std.proofs.Common.{refl, ap, sym, ◌∙◌, arith, length-append}
+use Rattle.std.proofs.Common.{refl, sym, ◌∙◌, arith, length-append}
 use Rattle.std.proofs.lemmas.Bool.Decides.{nat_tests}
 use Rattle.std.proofs.lemmas.List.Sums.{sum_by-cons}
 use Rattle.elf32_read.specs.declared.fault.ImageFault.{ImageFault}

@@ -22,3 +22,6 @@ mod table;
 pub use plan::{Plan, RunPlaces};
 pub use rewriting::{FILE_LIMIT, RewriteFault, Rewritten, rewrite};
 pub use site::Site;
+
+#[cfg(test)]
+mod tests;

@@ -1,0 +1,109 @@
+//! Files that are rewritten: how many sites they have and where the added block lies, or that no place has room.
+
+ghost use Rattle.std.specs.Prelude.{◌≤◌, length};
+
+use crate::frame::read_frame;
+use crate::rewriting::{FILE_LIMIT, RewriteFault, Rewritten, rewrite};
+use std::alloc::Global;
+
+/// A file with two headers: its code at 0x08048074, `mov eax, 1`, `mov ebx, 7`, `int 0x80`, and a page of zeros at
+/// 0x10000000 that can be read and written.
+const FILE: [u8; 128] = [
+    0x7F, 0x45, 0x4C, 0x46, 1, 1, 1, 0, 0, 0, 0, 0, 0, 0, 0, 0, //
+    2, 0, 3, 0, 1, 0, 0, 0, 0x74, 0x80, 0x04, 0x08, 52, 0, 0, 0, //
+    0, 0, 0, 0, 0, 0, 0, 0, 52, 0, 32, 0, 2, 0, 0, 0, //
+    0, 0, 0, 0, 1, 0, 0, 0, 0x74, 0, 0, 0, 0x74, 0x80, 0x04, 0x08, //
+    0x74, 0x80, 0x04, 0x08, 12, 0, 0, 0, 12, 0, 0, 0, 5, 0, 0, 0, //
+    0, 0x10, 0, 0, 1, 0, 0, 0, 0, 0, 0, 0, 0, 0, 0, 0x10, //
+    0, 0, 0, 0x10, 0, 0, 0, 0, 0, 0x10, 0, 0, 6, 0, 0, 0, //
+    0, 0x10, 0, 0, 0xB8, 1, 0, 0, 0, 0xBB, 7, 0, 0, 0, 0xCD, 0x80,
+];
+
+/// The file with other bytes at some places.
+fn edited<const N: usize, const K: usize>(mut file: [u8; N], edits: [(usize, u8); K]) -> [u8; N] {
+    for (place, byte) in edits {
+        if let Some(old) = file.get_mut(place) {
+            *old = byte;
+        }
+    }
+    file
+}
+
+/// The output of a file; else the size of the block that finds no room, or 0.
+fn rewritten(alloc: Global, file: &[u8]) -> Result<Rewritten, u64>
+    requires { length file.now ≤ FILE_LIMIT }
+{
+    match rewrite(alloc, file) {
+        Ok(rewritten) => Ok(rewritten),
+        Err(RewriteFault::NoRoom(size)) => Err(size),
+        Err(RewriteFault::Image(_) | RewriteFault::NoMemory) => Err(0),
+    }
+}
+
+/// The first added address of a file's output, and how many are added.
+fn added(alloc: Global, file: &[u8]) -> Result<(u32, u32), u64>
+    requires { length file.now ≤ FILE_LIMIT }
+{
+    let output = rewritten(alloc, file)?;
+    Ok((output.added.lo(), output.added.len()))
+}
+
+/// How many sites and runs a file's output has; `None` where it isn't rewritten.
+fn counts(alloc: Global, file: &[u8]) -> Option<(u32, u32)>
+    requires { length file.now ≤ FILE_LIMIT }
+{
+    let output = rewritten(alloc, file).ok()?;
+    let frame = read_frame(&output.bytes)?;
+    Some((output.sites, frame.run_count()))
+}
+
+#[test]
+fn joins_segments_that_touch(rt: HostRuntime) {
+    let one = counts(rt.alloc(), &FILE);
+    assert!(rt; one.is_some_and(|(_, runs)| runs == 1));
+
+    // The second segment, at 0x08049000, may be executed; the first goes up to it, or to one byte before it.
+    let second = [(93, 0x90), (94, 0x04), (95, 0x08), (100, 4), (108, 5)];
+    let touching = edited(edited(FILE, second), [(72, 0x8C), (73, 0x0F)]);
+    let joined = counts(rt.alloc(), &touching);
+    assert!(rt; joined.is_some_and(|(_, runs)| runs == 1));
+
+    let apart = counts(rt.alloc(), &edited(touching, [(72, 0x8B)]));
+    assert!(rt; apart.is_some_and(|(_, runs)| runs == 2));
+}
+
+#[test]
+fn takes_a_file_without_code(rt: HostRuntime) {
+    let file = edited(FILE, [(76, 4)]);
+    assert_eq!(rt; counts(rt.alloc(), &file), Some((0, 0)));
+    assert_eq!(rt; added(rt.alloc(), &file), Ok((0x0010_0000, 0x1000)));
+}
+
+#[test]
+fn lays_the_block_where_room_is(rt: HostRuntime) {
+    assert_eq!(rt; added(rt.alloc(), &FILE), Ok((0x0010_0000, 0x3000)));
+
+    // The code at 0x00102074 leaves two pages in front.
+    let low = edited(FILE, [(61, 0x20), (62, 0x10), (63, 0)]);
+    assert_eq!(rt; added(rt.alloc(), &low), Ok((0x0010_3000, 0x3000)));
+}
+
+#[test]
+fn finds_no_room(rt: HostRuntime) {
+    // The code at 0x00100074, and zeros from 0x00103000 up to 0xAFFFD000: three pages are left at the end.
+    let code = edited(FILE, [(61, 0), (62, 0x10), (63, 0)]);
+    let zeros = [
+        (93, 0x30),
+        (94, 0x10),
+        (95, 0),
+        (105, 0xA0),
+        (106, 0xEF),
+        (107, 0xAF),
+    ];
+    let room = edited(code, zeros);
+    assert_eq!(rt; added(rt.alloc(), &room), Ok((0xAFFF_D000, 0x3000)));
+
+    // One page of zeros more.
+    let full = edited(room, [(105, 0xB0)]);
+    assert_eq!(rt; added(rt.alloc(), &full), Err(12_288));
+}
