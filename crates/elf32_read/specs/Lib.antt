@@ -9,3 +9,4 @@ pub mod Loaded
 pub mod Limits
 pub mod Joining
 pub mod Thin
+pub mod RunCount

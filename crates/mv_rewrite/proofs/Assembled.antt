@@ -1,27 +1,40 @@
 -- What the plan of a file gives its writer, and that its file is the output.
 use Rattle.std.proofs.Common.{◌≡◌, ℕ, ◌+◌, ◌≤◌, List, [], ◌∷◌, length, Option, Some, None, true, refl, sym, ap, ◌∙◌, subst, arith}
+use Rattle.std.specs.Prelude.{IfOk, Result, Ok, Err}
 use Rattle.std.specs.Option.{option_map}
 use Rattle.mv_base.specs.Bytes.{AreBytes}
 use Rattle.mv_base.specs.declared.range.RunPlace.{RunPlace}
 use Rattle.elf32_read.specs.declared.image.Phdr.{Phdr}
 use Rattle.elf32_read.specs.declared.run.Run.{Run}
 use Rattle.std.proofs.lemmas.Option.{none-some, same_Some}
-use Rattle.elf32_read.specs.Fields.{headers, header_at}
-use Rattle.elf32_read.specs.Faults.{is_thin}
+use Rattle.elf32_read.specs.declared.fault.ImageFault.{ImageFault}
+use Rattle.elf32_read.specs.declared.image.Image.{Image}
+use Rattle.elf32_read.specs.Fields.{headers}
+use Rattle.elf32_read.specs.Faults.{or_else, load_refusal, limit_fault, refusal}
+use Rattle.elf32_read.specs.Limits.{exceeded, exceeded-image}
+use Rattle.elf32_read.specs.declared.reader.ReadImage.{ReadImage}
+use Rattle.elf32_read.specs.declared.reader.ReadImage.TheVariants.{Bad}
+use Rattle.elf32_read.specs.Reading.{IsImage, IsRead}
+use Rattle.elf32_read.specs.RunCount.{length-runs_of, header_count-admitted}
 use Rattle.elf32_read.specs.Runs.{runs_of, code_of}
-use Rattle.elf32_read.specs.Thin.{headers-thin, runs_of-thin}
+use Rattle.elf32_read.specs.Whole.{or_else-none, length-headers}
 use Rattle.mv_rewrite.specs.declared.plan.Plan.{Plan}
+use Rattle.mv_rewrite.specs.declared.layout.LayFault.{LayFault}
+use Rattle.mv_rewrite.specs.declared.layout.LayFault.TheVariants as lay_fault
+use Rattle.mv_rewrite.specs.declared.rewriting.Rewritten.{Rewritten}
+use Rattle.mv_rewrite.specs.declared.rewriting.RewriteFault.{RewriteFault}
 use Rattle.mv_rewrite.specs.declared.site.Site.{Site}
 use Rattle.mv_rewrite.specs.Sites.{sites, sites_in}
 use Rattle.mv_rewrite.specs.Layout.{up, base_of, size, code_len, table_len, private_len, plan_at}
 use Rattle.mv_rewrite.specs.File.{added_len, table_of, file_of}
-use Rattle.mv_rewrite.specs.Laying.{IsLaid}
+use Rattle.mv_rewrite.specs.Laying.{IsLaid, LaysOut}
+use Rattle.mv_rewrite.specs.Rewriting.{laid_fault, IsRewritten}
 use Rattle.mv_rewrite.specs.Output.{output, output_at}
 use Rattle.mv_rewrite.specs.Stopping.{Simulates}
 use Rattle.mv_rewrite.specs.Writing.{EndsLow}
 use Rattle.mv_rewrite.proofs.Planned.{length-code, length-table_of, length-counted, plan_runs, length-run_places, size_is, HasRoom, has_room_at}
-use Rattle.mv_rewrite.proofs.ThinLayout.{thin_sites}
-use Rattle.mv_rewrite.proofs.Outputs.{simulated, thin_input}
+use Rattle.mv_rewrite.proofs.LayoutFacts.{sites_of_runs}
+use Rattle.mv_rewrite.proofs.Outputs.{simulated, image_input}
 
 added_by : (b : List ℕ) (base : ℕ) → added_len (plan_at b base) ≡ size b
 added_by b base =
@@ -39,29 +52,59 @@ ends_low b p laid =
     let room = has_room_at b p.base laid.base_is in
     omega (arith, room.low, added_is b p laid)
 
--- the plan of a file of the one form has one run
-pub few_runs : (b : List ℕ) (p : Plan) → is_thin b ≡ true → IsLaid b p → length p.runs ≤ 64
-few_runs b p thin laid =
-    omega (arith, ap (λ (q : Plan). length q.runs) laid.plan_is, ap (λ (l : List RunPlace). length l) (plan_runs b p.base), length-run_places (p.base + up (code_len b)) (runs_of b), ap (λ (l : List Run). length l) (runs_of-thin b thin))
+-- the plan of a file within the limits has few runs
+pub few_runs : (b : List ℕ) (p : Plan) → limit_fault b ≡ None → IsLaid b p → length p.runs ≤ 64
+few_runs b p admitted laid =
+    omega (arith, ap (λ (q : Plan). length q.runs) laid.plan_is, ap (λ (l : List RunPlace). length l) (plan_runs b p.base), length-run_places (p.base + up (code_len b)) (runs_of b), length-runs_of b, header_count-admitted b admitted)
 
-pub few_headers : (b : List ℕ) (hs : List Phdr) → is_thin b ≡ true → hs ≡ headers b → length hs ≤ 61
-few_headers b hs thin are = omega (arith, ap (λ (l : List Phdr). length l) are, ap (λ (l : List Phdr). length l) (headers-thin b thin))
+pub few_headers : (b : List ℕ) (hs : List Phdr) → limit_fault b ≡ None → hs ≡ headers b → length hs ≤ 61
+few_headers b hs admitted are = omega (arith, ap (λ (l : List Phdr). length l) are, length-headers b, header_count-admitted b admitted)
+
+-- no fault: none that keeps a file from being loaded, and no limit is exceeded
+pub no_refusal : (b : List ℕ) → load_refusal b ≡ None → limit_fault b ≡ None → refusal b ≡ None
+unfolding refusal
+no_refusal b whole admitted = ap (λ (o : Option ImageFault). or_else o (limit_fault b)) whole ∙ admitted
+
+-- the first fault is the reader's, else that of the limits
+pub read_fault : (b : List ℕ) (e : ReadImage) (f : ImageFault) → IsRead b (Err e) → e ≡ Bad f → refusal b ≡ Some f
+unfolding refusal
+read_fault b e f read is = ap (λ (o : Option ImageFault). or_else o (limit_fault b)) (subst (λ (x : ReadImage). IsRead b (Err x)) is read)
+
+pub excess_fault : (b : List ℕ) (image : Image) (f : ImageFault) → IsImage b image → exceeded image ≡ Some f → refusal b ≡ Some f
+unfolding refusal
+excess_fault b image f is fault =
+    ap (λ (o : Option ImageFault). or_else o (limit_fault b)) is.whole ∙ sym (exceeded-image b image is) ∙ fault
 
 -- the file of a laid plan is the output
 pub output_is : (b : List ℕ) (p : Plan) → IsLaid b p → output b ≡ Some (file_of b p)
 unfolding output
 output_is b p laid = ap (option_map (output_at b)) laid.base_is ∙ ap (λ (q : Plan). Some (file_of b q)) (sym laid.plan_is)
 
-simulates_by : (b x : List ℕ) (o : Option ℕ) → is_thin b ≡ true → AreBytes b → length b ≤ 67108864 → base_of b ≡ o → option_map (output_at b) o ≡ Some x → Simulates b x
-simulates_by b x None thin bytes small at e = absurd (none-some x e)
-simulates_by b x (Some base) thin bytes small at e =
-    subst (Simulates b) (same_Some (output_at b base) x e) (simulated b base (thin_input b base thin bytes small at))
+simulates_by : (b x : List ℕ) (o : Option ℕ) → refusal b ≡ None → AreBytes b → length b ≤ 67108864 → base_of b ≡ o → option_map (output_at b) o ≡ Some x → Simulates b x
+unfolding refusal
+simulates_by b x None whole bytes small at e = absurd (none-some x e)
+simulates_by b x (Some base) whole bytes small at e =
+    let both = or_else-none (load_refusal b) (limit_fault b) whole in
+    subst (Simulates b) (same_Some (output_at b base) x e) (simulated b base (image_input b base both.0 both.1 bytes small at))
 
--- the output of a file of the one form simulates it
-pub output_simulates : (b x : List ℕ) → is_thin b ≡ true → AreBytes b → length b ≤ 67108864 → output b ≡ Some x → Simulates b x
+-- the output of a file with no fault simulates it
+pub output_simulates : (b x : List ℕ) → refusal b ≡ None → AreBytes b → length b ≤ 67108864 → output b ≡ Some x → Simulates b x
 unfolding output
-output_simulates b x thin bytes small e = simulates_by b x (base_of b) thin bytes small refl e
+output_simulates b x whole bytes small e = simulates_by b x (base_of b) whole bytes small refl e
+
+-- so does each output that a file is rewritten to
+pub all_simulate : (b : List ℕ) (r : Result Rewritten RewriteFault) → AreBytes b → length b ≤ 67108864 → IsRewritten b r → IfOk r (λ x. Simulates b x.bytes.items)
+all_simulate b (Ok x) bytes small is = output_simulates b x.bytes.items is.whole bytes small is.bytes
+all_simulate b (Err e) bytes small is = tt
+
+-- the answer where a file with no fault wasn't laid out
+no_plan : (b : List ℕ) (fault : LayFault) → refusal b ≡ None → LaysOut b (Err fault) → IsRewritten b (Err (laid_fault fault))
+no_plan b (lay_fault.NoRoom n) whole is = record { whole = whole; full = is.0; size_is = is.1 }
+no_plan b lay_fault.NoMemory whole is = tt
+
+pub laid_passes : (b : List ℕ) (fault : LayFault) (e : RewriteFault) → refusal b ≡ None → LaysOut b (Err fault) → e ≡ laid_fault fault → IsRewritten b (Err e)
+laid_passes b fault e whole is passed = subst (λ (x : RewriteFault). IsRewritten b (Err x)) (sym passed) (no_plan b fault whole is)
 
 -- the sites of the runs are those of the file
-pub sites_are : (b : List ℕ) (rs : List Run) (ss : List Site) → is_thin b ≡ true → rs ≡ runs_of b → ss ≡ sites_in (code_of rs) rs → ss ≡ sites b
-sites_are b rs ss thin runs found = found ∙ (ap (λ (rs : List Run). sites_in (code_of rs) rs) runs ∙ sym (thin_sites b thin))
+pub sites_are : (b : List ℕ) (rs : List Run) (ss : List Site) → load_refusal b ≡ None → rs ≡ runs_of b → ss ≡ sites_in (code_of rs) rs → ss ≡ sites b
+sites_are b rs ss whole runs found = found ∙ (ap (λ (rs : List Run). sites_in (code_of rs) rs) runs ∙ sym (sites_of_runs b whole))

@@ -8,7 +8,7 @@ pub mod SiteList
 pub mod SlotSteps
 pub mod Spellings
 pub mod TableWords
-pub mod ThinLayout
+pub mod LayoutFacts
 -- what stands where in an output, and how it loads, lowest first
 pub mod EntryWords
 pub mod SlotPlaces

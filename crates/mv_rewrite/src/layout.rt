@@ -1,6 +1,6 @@
 //! The layout of the added block: where it lies, and what is where in it.
 
-ghost use Rattle.std.specs.Prelude.{◌≡◌, ◌+◌, ◌*◌, ◌^◌, ◌<◌, ◌≤◌, length, Some, true, IfOk};
+ghost use Rattle.std.specs.Prelude.{◌≡◌, ◌+◌, ◌*◌, ◌^◌, ◌<◌, ◌≤◌, length, None, Some, IfOk};
 ghost use Rattle.elf32_read.specs.Faults.{limit_fault, load_refusal};
 ghost use Rattle.elf32_read.specs.Reading.{IsImage};
 ghost use Rattle.elf32_read.specs.Runs.{runs_of};
@@ -17,17 +17,29 @@ use crate::table::AddressTable;
 use elf32_read::{Image, Run};
 use mv_base::{Addrs, Bytes, NoMemory};
 use std::alloc::Global;
+use thiserror::Error;
 
 /// How many bytes the private area has without counters.
 const PRIVATE_LEN: u64 = 64;
 
 /// Why a file isn't laid out: no place has room for its block, which has this many bytes, or want of memory.
-#[derive(Debug, Error)]
+#[derive(Debug, Drop, Error)]
 pub enum LayFault {
     #[error("no room: {0}")]
     NoRoom(u64),
     #[error("no memory")]
     NoMemory,
+}
+
+impl From<NoMemory> for LayFault {
+    ghost use Rattle.std.specs.Prelude.{◌≡◌};
+    ghost use Rattle.mv_rewrite.specs.declared.layout.LayFault.TheVariants as fault;
+
+    ghost from_gives = { λ _ e. e ≡ fault.NoMemory };
+
+    fn from(_error: NoMemory) -> LayFault {
+        LayFault::NoMemory
+    }
 }
 
 /// What is added to a file: the block at the lowest place that has room, with the slots of the sites and the table of

@@ -1,8 +1,14 @@
-use Rattle.std.proofs.Common.{arith}
-use Rattle.mv_rewrite.proofs.Assembled.{output_simulates}
+-- The output simulates, and the reader's fault is the file's first.
+use Rattle.std.proofs.Common.{Some, arith, ap, sym, ◌∙◌}
+use Rattle.elf32_read.specs.declared.fault.ImageFault.{ImageFault}
+use Rattle.mv_rewrite.proofs.Assembled.{all_simulate, read_fault}
 use Rattle.mv_rewrite.proofs.rewriting.rewrite.Goals as goal
 
-pub returns-in_ok-rewrite_image-in-Ok-clause-simulates : goal.returns-in_ok-rewrite_image-in-Ok-clause-simulates
-returns-in_ok-rewrite_image-in-Ok-clause-simulates c =
-    let o = c.in_ok-rewrite_image-in-Ok.ensures in
-    output_simulates c.args.bytes.now c.in_ok-rewrite_image-in-Ok.field-0.bytes.items o.thin (λ i. omega (arith, c.type_inv.bytes i)) c.requires o.bytes
+pub returns-in-Ok-clause-simulates : goal.returns-in-Ok-clause-simulates
+returns-in-Ok-clause-simulates c =
+    all_simulate c.args.bytes.now c.rewrite_image.result (λ i. omega (arith, c.type_inv.bytes i)) c.requires c.rewrite_image.ensures
+
+pub returns-in-Err-Bad-clause-rewritten : goal.returns-in-Err-Bad-clause-rewritten
+returns-in-Err-Bad-clause-rewritten c =
+    read_fault c.args.bytes.now c.in-Err-Bad.field-0 c.in-Err-Bad.fault c.in-Err-Bad.ensures c.in-Err-Bad.field-0-is
+    ∙ ap (λ (f : ImageFault). Some f) (sym c.in-Err-Bad.fault-is)

@@ -1,7 +1,7 @@
--- The layout of a thin file: what its sites, its block and its table are.
+-- The layout of a file: what its sites, its block and its table are.
 use Rattle.std.proofs.Common.{◌≡◌, ℕ, zero, suc, ◌+◌, ◌*◌, ◌/◌, ◌^◌, ◌<◌, ◌≤◌, ◌⊎◌, Bool, true, false, cond, List, [], ◌∷◌, length, Option, Some, None, refl, sym, ap, ◌∙◌, subst, inl, inr, arith}
 use Rattle.std.specs.Prelude.{IsSome}
-use Rattle.std.specs.List.{list_all}
+use Rattle.std.specs.List.{filter_map}
 use Rattle.std.specs.Option.{option_map}
 use Rattle.std.proofs.lemmas.Bool.{cases_lt}
 use Rattle.std.proofs.lemmas.Bool.Decides.{nat_tests}
@@ -9,10 +9,12 @@ use Rattle.mv_base.specs.declared.range.RunPlace.{RunPlace}
 use Rattle.elf32_read.specs.declared.image.Phdr.{Phdr}
 use Rattle.elf32_read.specs.declared.image.Segment.{Segment}
 use Rattle.elf32_read.specs.declared.run.Run.{Run}
-use Rattle.elf32_read.specs.Fields.{header_at, entry_at, segments}
-use Rattle.elf32_read.specs.Faults.{is_thin}
+use Rattle.elf32_read.specs.Fields.{headers, maps, segment_of, entry_at, segments}
+use Rattle.elf32_read.specs.Faults.{free_after, load_refusal, limit_fault}
 use Rattle.elf32_read.specs.Runs.{runs_of, code_of, AreApart}
-use Rattle.elf32_read.specs.Thin.{IsThinHeader, thin_header_facts, thin_segment, thin_run, segments-thin, runs_of-thin, length-thin_run, code_of-runs_of, AreApart-runs_of}
+use Rattle.elf32_read.specs.RunCount.{bytes_len-runs_of, code_size-admitted}
+use Rattle.elf32_read.specs.Segments.{code_of-runs_of, AreApart-runs_of}
+use Rattle.elf32_read.specs.Whole.{Ascends, Ascends-whole}
 use Rattle.mv_rewrite.specs.declared.site.Site.{Site}
 use Rattle.mv_rewrite.specs.declared.plan.Plan.{Plan}
 use Rattle.mv_rewrite.specs.declared.table.AddressTable.{AddressTable}
@@ -24,8 +26,7 @@ use Rattle.mv_rewrite.specs.Lookup.{Ascend, IsTable, HasWords, table_entry, tabl
 use Rattle.mv_rewrite.specs.Room.{ArePagesApart}
 use Rattle.mv_rewrite.specs.Slots.{AreShort}
 use Rattle.mv_base.specs.Table.{entry_or, flat_entry}
-use Rattle.mv_rewrite.proofs.RunOrder.{length-cons, length-nil}
-use Rattle.mv_rewrite.proofs.Fit.{fits_at, taken}
+use Rattle.mv_rewrite.proofs.Planned.{length-addresses}
 use Rattle.mv_rewrite.proofs.SiteList.{sites_ascend, sites_mapped, sites_short, sites_count, entry_fits}
 use Rattle.mv_rewrite.proofs.TableWords.{table_entry_is, table_has_words}
 
@@ -47,79 +48,66 @@ pub record LayFacts (b : List ℕ) (rs : List Run) (ss : List Site) : Type 0 whe
   pub code_is : code_in b ≡ code_of rs
   pub size_is : size b ≡ up (32 * length ss) + up (4 * length (addresses rs)) + 4096
 
-thin_count : (b : List ℕ) → is_thin b ≡ true → length (addresses (runs_of b)) ≤ 4194304
-thin_count b thin =
-    let facts = thin_header_facts b thin in
-    omega (arith, ap (λ (rs : List Run). length (addresses rs)) (runs_of-thin b thin), length-cons (thin_run b (header_at b 52)) [], length-nil, length-thin_run b thin, facts.limit)
+count_is : (b : List ℕ) → load_refusal b ≡ None → limit_fault b ≡ None → length (addresses (runs_of b)) ≤ 4194304
+count_is b whole admitted = omega (arith, length-addresses (runs_of b), bytes_len-runs_of b whole, code_size-admitted b admitted)
 
-thin_code : (b : List ℕ) → is_thin b ≡ true → code_in b ≡ code_of (runs_of b)
-thin_code b thin = same_code (code_in b) (code_of (runs_of b)) (code_of-runs_of b thin)
+code_are : (b : List ℕ) → load_refusal b ≡ None → code_in b ≡ code_of (runs_of b)
+code_are b whole = same_code (code_in b) (code_of (runs_of b)) (code_of-runs_of b whole)
 
-pub thin_sites : (b : List ℕ) → is_thin b ≡ true → sites b ≡ sites_in (code_of (runs_of b)) (runs_of b)
+-- the sites of a file are those of its runs
+pub sites_of_runs : (b : List ℕ) → load_refusal b ≡ None → sites b ≡ sites_in (code_of (runs_of b)) (runs_of b)
 unfolding sites
-thin_sites b thin = ap (λ (c : ℕ → Option ℕ). sites_in c (runs_of b)) (thin_code b thin)
+sites_of_runs b whole = ap (λ (c : ℕ → Option ℕ). sites_in c (runs_of b)) (code_are b whole)
 
 size_is : (b : List ℕ) → size b ≡ up (32 * length (sites b)) + up (4 * length (addresses (runs_of b))) + 4096
 unfolding size
 size_is b = refl
 
-facts_of : (b : List ℕ) → is_thin b ≡ true → LayFacts b (runs_of b) (sites b)
-facts_of b thin =
+facts_of : (b : List ℕ) → load_refusal b ≡ None → limit_fault b ≡ None → LayFacts b (runs_of b) (sites b)
+facts_of b whole admitted =
     let rs = runs_of b in
-    let e = thin_sites b thin in
+    let e = sites_of_runs b whole in
+    let apart = AreApart-runs_of b whole in
+    let count = count_is b whole admitted in
     record {
-      apart = AreApart-runs_of b thin;
-      count = thin_count b thin;
-      site_count = omega (arith, ap length e, sites_count (code_of rs) rs, thin_count b thin);
-      ascend = λ base. subst (λ (ss : List Site). Ascend 0 (places base ss)) (sym e) (sites_ascend rs base (AreApart-runs_of b thin));
+      apart = apart;
+      count = count;
+      site_count = omega (arith, ap length e, sites_count (code_of rs) rs, count);
+      ascend = λ base. subst (λ (ss : List Site). Ascend 0 (places base ss)) (sym e) (sites_ascend rs base apart);
       short = subst (λ (ss : List Site). AreShort ss) (sym e) (sites_short rs);
       mapped = λ base a none. ap (λ (ss : List Site). entry_in (places base ss) a) e ∙ sites_mapped rs base a none;
-      code_is = thin_code b thin;
+      code_is = code_are b whole;
       size_is = size_is b;
     }
 
-pub lay_facts : (b : List ℕ) (rs : List Run) (ss : List Site) → is_thin b ≡ true → rs ≡ runs_of b → ss ≡ sites b → LayFacts b rs ss
-lay_facts b rs ss thin e f =
-    subst (λ (x : List Site). LayFacts b rs x) (sym f) (subst (λ (x : List Run). LayFacts b x (sites b)) (sym e) (facts_of b thin))
+pub lay_facts : (b : List ℕ) (rs : List Run) (ss : List Site) → load_refusal b ≡ None → limit_fault b ≡ None → rs ≡ runs_of b → ss ≡ sites b → LayFacts b rs ss
+lay_facts b rs ss whole admitted e f =
+    subst (λ (x : List Site). LayFacts b rs x) (sym f) (subst (λ (x : List Run). LayFacts b x (sites b)) (sym e) (facts_of b whole admitted))
 
--- the one segment shares no page with another
-pub thin_apart : (b : List ℕ) (ss : List Segment) → is_thin b ≡ true → ss ≡ segments b → ArePagesApart 0 ss
-thin_apart b ss thin e = subst (λ (t : List Segment). ArePagesApart 0 t) (sym (e ∙ segments-thin b thin)) (omega arith, tt)
+-- the segments of headers whose pages ascend share no page
+pages_by : (free : ℕ) (h : Phdr) (hs : List Phdr) (t : Bool) → maps h ≡ t → (maps h ≡ true → free ≤ h.vaddr / 4096) → ArePagesApart (free_after free h) (filter_map segment_of hs) → ArePagesApart free (filter_map segment_of (h ∷ hs))
+pages_by free h hs true mapped above rest =
+    let low = above mapped in
+    let later : ArePagesApart ((h.vaddr + h.memsz + 4095) / 4096) (filter_map segment_of hs) = subst (λ (t : Bool). ArePagesApart (cond t ((h.vaddr + h.memsz + 4095) / 4096) free) (filter_map segment_of hs)) mapped rest in
+    rw mapped (low, later)
+pages_by free h hs false not_mapped above rest =
+    let later : ArePagesApart free (filter_map segment_of hs) = subst (λ (t : Bool). ArePagesApart (cond t ((h.vaddr + h.memsz + 4095) / 4096) free) (filter_map segment_of hs)) not_mapped rest in
+    rw not_mapped later
 
-pub size_bounds : (b : List ℕ) → is_thin b ≡ true → (4096 ≤ size b) × (size b ≤ 151003136)
-size_bounds b thin =
-    let f = facts_of b thin in
-    (omega (arith, f.size_is), omega (arith, f.size_is, f.count, f.site_count))
+pages_apart : (free : ℕ) (hs : List Phdr) → Ascends free hs → ArePagesApart free (filter_map segment_of hs)
+pages_apart free [] ascends = tt
+pages_apart free (h ∷ hs) ascends = pages_by free h hs (maps h) refl ascends.0 (pages_apart (free_after free h) hs ascends.1)
 
-one_apart : (from to : ℕ) (s : Segment) → (to ≤ s.range.lo / 4096) ⊎ ((s.range.lo + s.range.len + 4095) / 4096 ≤ from) → list_all (is_apart from to) (s ∷ []) ≡ true
-one_apart from to s o = elim o [ inl h ↦ grind (arith, nat_tests) | inr h ↦ grind (arith, nat_tests) ]
+whole_apart : (b : List ℕ) → load_refusal b ≡ None → ArePagesApart 0 (segments b)
+unfolding segments
+whole_apart b whole = pages_apart 0 (headers b) (Ascends-whole b whole)
 
-some_is : (o : Option ℕ) (x : ℕ) → o ≡ Some x → IsSome o
-some_is o x h = subst (λ (t : Option ℕ). IsSome t) (sym h) refl
+-- the segments of a file with no fault share no page
+pub segments_apart : (b : List ℕ) (ss : List Segment) → load_refusal b ≡ None → ss ≡ segments b → ArePagesApart 0 ss
+segments_apart b ss whole e = subst (λ (t : List Segment). ArePagesApart 0 t) (sym e) (whole_apart b whole)
 
-fits_one : (h : Phdr) (len n : ℕ) → IsThinHeader len h → 4096 ≤ n → n ≤ 151003136 → IsSome (first_fit (thin_segment h ∷ []) n)
-fits_one h len n facts some limit =
-    let s = thin_segment h in
-    let end = (h.vaddr + h.memsz + 4095) / 4096 in
-    let at_first = λ (o : (0x100 + n / 4096 ≤ s.range.lo / 4096) ⊎ ((s.range.lo + s.range.len + 4095) / 4096 ≤ 0x100)).
-    some_is (first_fit (s ∷ []) n) (4096 * 0x100) (fits_at (s ∷ []) n 0x100 (omega arith) (omega arith) (one_apart 0x100 (0x100 + n / 4096) s o) (λ p low high. absurd (omega arith)) (omega arith)) in
-    elim (cases_lt (h.vaddr / 4096) (0x100 + n / 4096)) [
-      | inl below ↦
-          elim (cases_lt 0x100 end) [
-            | inl above ↦
-                some_is (first_fit (s ∷ []) n) (4096 * end) (fits_at (s ∷ []) n end (omega arith) (omega arith) (one_apart end (end + n / 4096) s (inr (omega arith)))
-                (λ p low high. taken (s ∷ []) 0 s p (p + n / 4096) (omega arith) refl (omega arith) (omega arith)) (omega (arith, facts.limit)))
-            | inr l ↦ at_first (inr l)
-          ]
-      | inr l ↦ at_first (inl l)
-    ]
-
--- a thin file always has room for its block
-pub base_of-thin : (b : List ℕ) → is_thin b ≡ true → IsSome (base_of b)
-unfolding base_of
-base_of-thin b thin =
-    let bounds = size_bounds b thin in
-    subst (λ (ss : List Segment). IsSome (first_fit ss (size b))) (sym (segments-thin b thin)) (fits_one (header_at b 52) (length b) (size b) (thin_header_facts b thin) bounds.0 bounds.1)
+pub size_some : (b : List ℕ) → 4096 ≤ size b
+size_some b = omega (arith, size_is b)
 
 pub base_of_is : (b : List ℕ) (ss : List Segment) (n : ℕ) → ss ≡ segments b → n ≡ size b → base_of b ≡ first_fit ss n
 unfolding base_of
