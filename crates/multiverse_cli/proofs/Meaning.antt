@@ -7,10 +7,10 @@ use Rattle.multiverse_cli.specs.declared.failure.Failure.{Failure}
 use Rattle.multiverse_cli.specs.declared.failure.Failure.TheVariants as failure
 use Rattle.multiverse_cli.specs.declared.refusal.Refusal.{Refusal}
 use Rattle.multiverse_cli.specs.declared.refusal.Refusal.TheVariants as refusal
-use Rattle.multiverse_cli.specs.Answers.{IsRewritable, InputIs, input_of, output_of, WritesOutput, BeginsOutput, IsInput, text_of, Comes, ComesAt, ComesWithout, Leaves, LeavesAt, Prints, PrintsAt, PrintsWithout, IsCutOff, OfMemory, OfRead, OfSize, OfImage, OfRoom, OfWrite, OfDone, Delivers, Delivered}
-use Rattle.multiverse_cli.specs.Outside.{Stored, Printed, Held, KeepsAll, Says, SaysAll, SaysPart}
-use Rattle.multiverse_cli.specs.Steps.{Attempts, Carries, CarriesNothing, IsCarriedOut, IsRefused, IsStarved, PrintsText, PrintsRefusal, Refuses, Reports}
-use Rattle.multiverse_cli.specs.Texts.{status_of, message_of, memory_message, read_message, size_message, write_message, usage_message}
+use Rattle.multiverse_cli.specs.Answers.{IsRewritable, InputIs, input_of, output_of, WritesOutput, BeginsOutput, IsInput, text_of, Comes, ComesAt, ComesWithout, Leaves, LeavesAt, Prints, PrintsAt, PrintsWithout, IsCutOff, OfMemory, OfRead, OfSize, OfImage, OfRoom, OfWrite, OfDone, Delivers}
+use Rattle.multiverse_cli.specs.Outside.{Stored, Printed, Held, Says, SaysPart}
+use Rattle.multiverse_cli.specs.Steps.{Attempts, IsCarriedOut, PrintsText, PrintsRefusal, Refuses, Reports}
+use Rattle.multiverse_cli.specs.Texts.{status_of, message_of, memory_message, read_message, size_message, write_message}
 use Rattle.multiverse_cli.specs.Words.{Asked}
 
 -- what is known of the bytes that the input held is known of the input

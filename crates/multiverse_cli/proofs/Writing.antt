@@ -1,5 +1,5 @@
 -- From what a write of the output did, to what the command did.
-use Rattle.std.proofs.Common.{◌≡◌, ℕ, ◌≤◌, length, List, Option, Some, is_some, Result, Ok, Err, IsErrAnd, IsTrue, Vec, Global, sym, ◌∙◌, ap, subst, inl, inr}
+use Rattle.std.proofs.Common.{◌≡◌, ℕ, ◌≤◌, length, List, Option, Some, is_some, Result, Ok, Err, IsErrAnd, Vec, Global, sym, ◌∙◌, ap, subst, inr}
 use Rattle.std.specs.Prelude.{unwrap_or}
 use Rattle.mv_base.specs.Holding.{KeepsOrBegins}
 use Rattle.mv_base.specs.Faults.{Rose}

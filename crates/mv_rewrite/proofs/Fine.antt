@@ -1,14 +1,12 @@
 -- What a header without a fault keeps, and that it keeps it in the output.
-use Rattle.std.proofs.Common.{◌≡◌, ◌≢◌, ℕ, zero, suc, ◌+◌, ◌-◌, ◌*◌, ◌/◌, ◌%◌, ◌^◌, ◌<◌, ◌≤◌, ◌⊎◌, Bool, true, false, not, cond, eqb, leb, ltb, ◌&&◌, ◌||◌, List, [], ◌∷◌, ◌++◌, length, get_or, map, Option, Some, None, refl, sym, ap, ◌∙◌, subst, inl, inr, arith}
-use Rattle.std.specs.Prelude.{slice_index}
-use Rattle.std.specs.List.{list_any}
-use Rattle.std.proofs.lemmas.Bool.{cases_Bool, leb-true, ltb-true, ltb-false, le-ltb, lt-ltb, lt-leb, eq-eqb, eqb-true, eqb-false, ne_eqb, not-false, and_parts, and_cases, and_from, and_left, and_right, or_parts, true≢false, cond_both}
+use Rattle.std.proofs.Common.{◌≡◌, ℕ, ◌+◌, ◌*◌, ◌/◌, ◌%◌, ◌^◌, ◌<◌, ◌≤◌, Bool, true, false, not, cond, eqb, ltb, ◌&&◌, ◌||◌, Option, Some, None, refl, sym, ap, ◌∙◌, inl, inr, arith}
+use Rattle.std.proofs.lemmas.Bool.{cases_Bool, ltb-true, ltb-false, le-ltb, lt-ltb, eq-eqb, eqb-true, ne_eqb, not-false, and_parts, and_from, and_left, and_right, true≢false}
 use Rattle.std.proofs.lemmas.Option.{none-some}
 use Rattle.elf32_read.specs.declared.fault.ImageFault.{ImageFault}
-use Rattle.elf32_read.specs.declared.fault.ImageFault.TheVariants.{Interpreter, Dynamic, FileRange, MemorySmaller, AddressRange, NoPermission, WritableCode, NotCongruent, SharedPage, NoLoad}
+use Rattle.elf32_read.specs.declared.fault.ImageFault.TheVariants.{Interpreter, Dynamic, FileRange, MemorySmaller, AddressRange, NoPermission, WritableCode, NotCongruent, SharedPage}
 use Rattle.elf32_read.specs.declared.image.Phdr.{Phdr}
-use Rattle.elf32_read.specs.Fields.{is_load, maps, has_exec, has_write, has_read, headers}
-use Rattle.elf32_read.specs.Faults.{or_else, fault_if, head_fault, segment_fault, header_fault, headers_fault, free_after, load_refusal}
+use Rattle.elf32_read.specs.Fields.{is_load, maps, has_exec, has_write, has_read}
+use Rattle.elf32_read.specs.Faults.{or_else, segment_fault, header_fault}
 use Rattle.mv_rewrite.specs.File.{head_len, kept_header}
 
 -- ---- chains of tests
@@ -53,13 +51,15 @@ segment_is free i h e =
     let p = passed (not (has_read h || has_write h || has_exec h)) (NoPermission i) _ a.1 in
     let w = passed (has_write h && has_exec h) (WritableCode i) _ p.1 in
     let c = passed (not (eqb (h.offset % 4096) (h.vaddr % 4096))) (NotCongruent i) _ w.1 in
-    let s = passed (ltb (h.vaddr / 4096) free) (SharedPage i) None c.1 in
-    (record {
-      low = ltb-false 0xFFFFF000 (h.vaddr + h.memsz) a.0;
-      fixed = w.0;
-      congruent = eqb-true (h.offset % 4096) (h.vaddr % 4096) (not-false (eqb (h.offset % 4096) (h.vaddr % 4096)) c.0);
-      first_page = ltb-false (h.vaddr / 4096) free s.0;
-    }, not-false (has_read h || has_write h || has_exec h) p.0)
+    let s = passed (ltb (h.vaddr / 4096) free) (SharedPage i) None c.1 in (
+      record {
+        low = ltb-false 0xFFFFF000 (h.vaddr + h.memsz) a.0;
+        fixed = w.0;
+        congruent = eqb-true (h.offset % 4096) (h.vaddr % 4096) (not-false (eqb (h.offset % 4096) (h.vaddr % 4096)) c.0);
+        first_page = ltb-false (h.vaddr / 4096) free s.0;
+      },
+      not-false (has_read h || has_write h || has_exec h) p.0,
+    )
 
 abbrev of_range : ℕ → Phdr → Bool
 of_range len h = is_load h && ltb 0 h.filesz && ltb len (h.offset + h.filesz)
@@ -77,7 +77,7 @@ fine_is len free i h e =
       no_dynamic = k2.0;
       loaded = λ l. record {
         inside = λ some. ltb-false len (h.offset + h.filesz)
-          (sym (ap (λ u. u && ltb len (h.offset + h.filesz)) (and_from (is_load h) (ltb 0 h.filesz) l (lt-ltb 0 h.filesz some))) ∙ r.0);
+            (sym (ap (λ u. u && ltb len (h.offset + h.filesz)) (and_from (is_load h) (ltb 0 h.filesz) l (lt-ltb 0 h.filesz some))) ∙ r.0);
         smaller = ltb-false h.memsz h.filesz (sym (ap (λ u. u && ltb h.memsz h.filesz) l) ∙ m.0);
       };
       mapped = λ t. (segment_is free i h (seg t)).0;
@@ -97,22 +97,22 @@ pub fine_none : (len free i : ℕ) (h : Phdr) → IsFine len free h → header_f
 unfolding header_fault
 fine_none len free i h is =
     let range : of_range len h ≡ false =
-        elim (cases_Bool (is_load h && ltb 0 h.filesz)) [
-          | inl t ↦
-              let q = and_parts (is_load h) (ltb 0 h.filesz) t in
-              and_right (is_load h && ltb 0 h.filesz) (ltb len (h.offset + h.filesz)) (le-ltb len (h.offset + h.filesz) ((is.loaded q.0).inside (ltb-true 0 h.filesz q.1)))
-          | inr t ↦ and_left (is_load h && ltb 0 h.filesz) (ltb len (h.offset + h.filesz)) t
-        ] in
+    elim (cases_Bool (is_load h && ltb 0 h.filesz)) [
+      | inl t ↦
+          let q = and_parts (is_load h) (ltb 0 h.filesz) t in
+          and_right (is_load h && ltb 0 h.filesz) (ltb len (h.offset + h.filesz)) (le-ltb len (h.offset + h.filesz) ((is.loaded q.0).inside (ltb-true 0 h.filesz q.1)))
+      | inr t ↦ and_left (is_load h && ltb 0 h.filesz) (ltb len (h.offset + h.filesz)) t
+    ] in
     let small : (is_load h && ltb h.memsz h.filesz) ≡ false =
-        elim (cases_Bool (is_load h)) [
-          | inl t ↦ and_right (is_load h) (ltb h.memsz h.filesz) (le-ltb h.memsz h.filesz (is.loaded t).smaller)
-          | inr t ↦ and_left (is_load h) (ltb h.memsz h.filesz) t
-        ] in
+    elim (cases_Bool (is_load h)) [
+      | inl t ↦ and_right (is_load h) (ltb h.memsz h.filesz) (le-ltb h.memsz h.filesz (is.loaded t).smaller)
+      | inr t ↦ and_left (is_load h) (ltb h.memsz h.filesz) t
+    ] in
     let seg : cond (maps h) (segment_fault free i h) None ≡ None =
-        elim (cases_Bool (maps h)) [
-          | inl t ↦ ap (λ u. cond u (segment_fault free i h) None) t ∙ segment_none free i h (is.mapped t) (is.permitted t)
-          | inr t ↦ ap (λ u. cond u (segment_fault free i h) None) t
-        ] in
+    elim (cases_Bool (maps h)) [
+      | inl t ↦ ap (λ u. cond u (segment_fault free i h) None) t ∙ segment_none free i h (is.mapped t) (is.permitted t)
+      | inr t ↦ ap (λ u. cond u (segment_fault free i h) None) t
+    ] in
     passes _ (Interpreter i) _ is.no_interpreter
     (passes _ (Dynamic i) _ is.no_dynamic
     (passes _ (FileRange i) _ range

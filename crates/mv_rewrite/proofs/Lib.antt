@@ -1,4 +1,5 @@
 -- why the code gives what the definitions say
+pub mod Instance
 pub mod PairWalk
 pub mod Fit
 pub mod Fronts

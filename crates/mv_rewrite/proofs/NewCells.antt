@@ -1,9 +1,9 @@
 -- The memory of an output: the input's cells, no longer executable, beside those of the block.
-use Rattle.std.proofs.Common.{◌≡◌, ◌≢◌, ℕ, zero, suc, ◌+◌, ◌-◌, ◌*◌, ◌/◌, ◌%◌, ◌^◌, ◌<◌, ◌≤◌, ◌⊎◌, Bool, true, false, not, cond, eqb, leb, ltb, ◌&&◌, ◌||◌, List, [], ◌∷◌, ◌++◌, length, get_or, map, Option, Some, None, refl, sym, ap, ◌∙◌, subst, inl, inr, arith}
+use Rattle.std.proofs.Common.{◌≡◌, ℕ, ◌+◌, ◌-◌, ◌/◌, ◌<◌, ◌≤◌, ◌⊎◌, Bool, true, false, cond, leb, ltb, ◌&&◌, List, [], ◌∷◌, ◌++◌, length, map, Option, Some, None, refl, sym, ap, ◌∙◌, subst, inl, inr, arith}
 use Rattle.std.specs.Prelude.{slice_index}
 use Rattle.std.specs.List.{filter_map, cons_option}
 use Rattle.std.proofs.lemmas.Bool.{cases_Bool, leb-true, ltb-true, ltb-false, le-leb, lt-ltb, le-ltb, lt-leb, leb-false, and_parts, and_from, and_left, and_right, and_cases}
-use Rattle.mv_base.specs.Memory.{Cell, Memory, within, first_of, is_writable, is_executable, cell_is}
+use Rattle.mv_base.specs.Memory.{Cell, Memory, within, first_of, cell_is}
 use Rattle.elf32_read.specs.declared.image.Phdr.{Phdr}
 use Rattle.elf32_read.specs.declared.image.Segment.{Segment}
 use Rattle.elf32_read.specs.Fields.{is_load, maps, has_exec, has_write, segment_of, segments, headers}
@@ -14,7 +14,7 @@ use Rattle.mv_rewrite.specs.File.{kept_header, with_added}
 use Rattle.mv_rewrite.specs.Relocated.{idle_cell, without_exec}
 use Rattle.mv_rewrite.proofs.EntryWords.{within_parts}
 use Rattle.mv_rewrite.proofs.Parts.{Stands}
-use Rattle.mv_rewrite.proofs.Fine.{IsLoaded, IsFine, IsKept, is_kept, kept_load, moved_offset}
+use Rattle.mv_rewrite.proofs.Fine.{IsFine, is_kept, kept_load, moved_offset}
 use Rattle.mv_rewrite.proofs.NewHeaders.{Block, IsBlock, block_size, code_of_block, table_of_block, private_of_block, block_headers, AreApart, fine_parts}
 
 -- ---- ranges
@@ -68,10 +68,10 @@ load_one x h ss a =
           subst (λ t. here t (is_load h && within h.vaddr h.memsz a)) (sym m) (subst (here true) (sym w) refl)
       | inr m ↦
           let w : (is_load h && within h.vaddr h.memsz a) ≡ false =
-            elim (and_cases (is_load h) (ltb 0 h.memsz) m) [
-              | inl t ↦ and_left (is_load h) (within h.vaddr h.memsz a) t
-              | inr t ↦ and_right (is_load h) (within h.vaddr h.memsz a) (within-empty h.vaddr h.memsz a (ltb-false 0 h.memsz t))
-            ] in
+          elim (and_cases (is_load h) (ltb 0 h.memsz) m) [
+            | inl t ↦ and_left (is_load h) (within h.vaddr h.memsz a) t
+            | inr t ↦ and_right (is_load h) (within h.vaddr h.memsz a) (within-empty h.vaddr h.memsz a (ltb-false 0 h.memsz t))
+          ] in
           subst (λ t. here t (is_load h && within h.vaddr h.memsz a)) (sym m) (subst (here false) (sym w) refl)
     ]
 
@@ -123,16 +123,16 @@ kept_cell b x h a free stands small fine =
                 let d = a - h.vaddr in
                 let tests : ltb (a - (kept_header h).vaddr) (kept_header h).filesz ≡ ltb d h.filesz = ap (λ n. ltb (a - n) (kept_header h).filesz) k.vaddr ∙ ap (λ n. ltb d n) k.filesz in
                 let byte : cond (ltb (a - (kept_header h).vaddr) (kept_header h).filesz) (slice_index x ((kept_header h).offset + (a - (kept_header h).vaddr))) 0 ≡ cond (ltb d h.filesz) (slice_index b (h.offset + d)) 0 =
-                  elim (cases_Bool (ltb d h.filesz)) [
-                    | inl t ↦
-                        let lt = ltb-true d h.filesz t in
-                        let inside = (fine.loaded l).inside (omega (arith, lt)) in
-                        let place : (kept_header h).offset + (a - (kept_header h).vaddr) ≡ 0x1000 + (h.offset + d) = omega (arith, k.offset, k.vaddr, moved_offset h.offset h.filesz (omega (arith, inside, small))) in
-                        ap (λ u. cond u (slice_index x ((kept_header h).offset + (a - (kept_header h).vaddr))) 0) (tests ∙ t)
-                        ∙ (ap (slice_index x) place ∙ (stands.byte (h.offset + d) (omega (arith, inside, lt)) ∙ sym (ap (λ u. cond u (slice_index b (h.offset + d)) 0) t)))
-                    | inr t ↦
-                        ap (λ u. cond u (slice_index x ((kept_header h).offset + (a - (kept_header h).vaddr))) 0) (tests ∙ t) ∙ sym (ap (λ u. cond u (slice_index b (h.offset + d)) 0) t)
-                  ] in
+                elim (cases_Bool (ltb d h.filesz)) [
+                  | inl t ↦
+                      let lt = ltb-true d h.filesz t in
+                      let inside = (fine.loaded l).inside (omega (arith, lt)) in
+                      let place : (kept_header h).offset + (a - (kept_header h).vaddr) ≡ 0x1000 + (h.offset + d) = omega (arith, k.offset, k.vaddr, moved_offset h.offset h.filesz (omega (arith, inside, small))) in
+                      ap (λ u. cond u (slice_index x ((kept_header h).offset + (a - (kept_header h).vaddr))) 0) (tests ∙ t)
+                      ∙ (ap (slice_index x) place ∙ (stands.byte (h.offset + d) (omega (arith, inside, lt)) ∙ sym (ap (λ u. cond u (slice_index b (h.offset + d)) 0) t)))
+                  | inr t ↦
+                      ap (λ u. cond u (slice_index x ((kept_header h).offset + (a - (kept_header h).vaddr))) 0) (tests ∙ t) ∙ sym (ap (λ u. cond u (slice_index b (h.offset + d)) 0) t)
+                ] in
                 let w' = k.write l in
                 let e' = k.idle l in
                 let cells : inner_cell x (kept_header h) a ≡ idle_cell (inner_cell b h a) = λ i. record { byte = byte i; write = w' i; exec = e' i } in
@@ -173,13 +173,13 @@ kept_out x len k h a is at apart =
     let same : within (kept_header h).vaddr (kept_header h).memsz a ≡ within h.vaddr h.memsz a = ap (λ n. within n (kept_header h).memsz a) q.vaddr ∙ ap (λ n. within h.vaddr n a) q.memsz in
     elim (cases_Bool (maps h)) [
       | inl m ↦ cell_outside x (kept_header h) a (same ∙ within_not h.vaddr h.memsz a (elim (apart m) [
-            | inl up ↦ inl (omega (arith, up, at.below, is.at))
-            | inr down ↦ inr (omega (arith, down, at.from, is.at))
-          ]))
+        | inl up ↦ inl (omega (arith, up, at.below, is.at))
+        | inr down ↦ inr (omega (arith, down, at.from, is.at))
+      ]))
       | inr m ↦ elim (and_cases (is_load h) (ltb 0 h.memsz) m) [
-            | inl l ↦ cell_unloaded x (kept_header h) a (kept_load h ∙ l)
-            | inr n ↦ cell_outside x (kept_header h) a (same ∙ within-empty h.vaddr h.memsz a (ltb-false 0 h.memsz n))
-          ]
+        | inl l ↦ cell_unloaded x (kept_header h) a (kept_load h ∙ l)
+        | inr n ↦ cell_outside x (kept_header h) a (same ∙ within-empty h.vaddr h.memsz a (ltb-false 0 h.memsz n))
+      ]
     ]
 
 kept_all_out : (x : List ℕ) (len : ℕ) (k : Block) (hs : List Phdr) (a : ℕ) → IsBlock len k → InBlock k a → AreApart k hs → cells_of x (map kept_header hs) a ≡ None
@@ -236,7 +236,7 @@ code_cell x code k n len stands lt =
     let file : ltb (a - k.base) k.code ≡ true = lt-ltb (a - k.base) k.code (omega (arith, d, lt, len)) in
     let byte : slice_index x (k.place + (a - k.base)) ≡ slice_index code n = ap (λ m. slice_index x (k.place + m)) d ∙ stands.byte n lt in
     let cell : inner_cell x (code_of_block k) a ≡ record { byte = slice_index code n; write = false; exec = true } =
-        ap (λ u. record { byte = cond u (slice_index x (k.place + (a - k.base))) 0; write = false; exec = true }) file ∙ ap (λ m. record { byte = m; write = false; exec = true }) byte in
+    ap (λ u. record { byte = cond u (slice_index x (k.place + (a - k.base))) 0; write = false; exec = true }) file ∙ ap (λ m. record { byte = m; write = false; exec = true }) byte in
     ap (λ u. three u (header_cell x (table_of_block k) a) (header_cell x (private_of_block k) a)) (cell_inside x (code_of_block k) a refl w ∙ ap (λ (c : Cell). Some c) cell)
 
 abbrev write_of : Option Cell → Bool
@@ -258,8 +258,8 @@ block_fixed x k a w =
       | inr v ↦ ap write_of (cell_outside x (table_of_block k) a v)
     ] in
     write_first (header_cell x (code_of_block k) a) (first_of (header_cell x (table_of_block k) a) (first_of (header_cell x (private_of_block k) a) None)) c
-      (write_first (header_cell x (table_of_block k) a) (first_of (header_cell x (private_of_block k) a) None) t
-        (ap (λ u. write_of (first_of u None)) (cell_outside x (private_of_block k) a w)))
+    (write_first (header_cell x (table_of_block k) a) (first_of (header_cell x (private_of_block k) a) None) t
+    (ap (λ u. write_of (first_of u None)) (cell_outside x (private_of_block k) a w)))
 
 -- the private area: zeros that may be written and not executed
 pub private_cell : (x : List ℕ) (k : Block) (a : ℕ) → within (k.base + up k.code + up k.table) k.private a ≡ true → cells_of x (block_headers k) a ≡ Some (record { byte = 0; write = true; exec = false })
@@ -267,7 +267,7 @@ private_cell x k a w =
     let q = within_parts (k.base + up k.code + up k.table) k.private a w in
     let file : ltb (a - (k.base + up k.code + up k.table)) 0 ≡ false = le-ltb (a - (k.base + up k.code + up k.table)) 0 (omega arith) in
     let cell : inner_cell x (private_of_block k) a ≡ record { byte = 0; write = true; exec = false } =
-        ap (λ u. record { byte = cond u (slice_index x (k.place + up k.code + up k.table + (a - (k.base + up k.code + up k.table)))) 0; write = true; exec = false }) file in
+    ap (λ u. record { byte = cond u (slice_index x (k.place + up k.code + up k.table + (a - (k.base + up k.code + up k.table)))) 0; write = true; exec = false }) file in
     ap (λ u. three u (header_cell x (table_of_block k) a) (header_cell x (private_of_block k) a)) (cell_outside x (code_of_block k) a (within_not k.base k.code a (inr (omega (arith, q.0)))))
     ∙ (ap (λ u. three None u (header_cell x (private_of_block k) a)) (cell_outside x (table_of_block k) a (within_not (k.base + up k.code) k.table a (inr (omega (arith, q.0)))))
     ∙ ap (λ u. three None None u) (cell_inside x (private_of_block k) a refl w ∙ ap (λ (c : Cell). Some c) cell))

@@ -1,21 +1,12 @@
 -- The headers of an output: they have no fault, and load the input's cells beside those of the block.
-use Rattle.std.proofs.Common.{lit<, ◌≡◌, ◌≢◌, ℕ, zero, suc, ◌+◌, ◌-◌, ◌*◌, ◌/◌, ◌%◌, ◌^◌, ◌<◌, ◌≤◌, ◌⊎◌, Bool, true, false, not, cond, eqb, leb, ltb, ◌&&◌, ◌||◌, List, [], ◌∷◌, ◌++◌, length, get_or, map, Option, Some, None, refl, sym, ap, ◌∙◌, subst, inl, inr, arith}
-use Rattle.std.specs.Prelude.{slice_index}
-use Rattle.std.specs.List.{list_any, list_all, filter_map, cons_option, AllByRecursion}
-use Rattle.std.proofs.lemmas.List.{length-append, length-map}
-use Rattle.std.proofs.lemmas.Bool.{cases_Bool, leb-true, ltb-true, ltb-false, le-ltb, lt-ltb, lt-leb, leb-false, eq-eqb, and_parts, and_from, and_left, and_right, and_cases, or_cases, or_right, cond_both}
-use Rattle.mv_base.specs.Memory.{Cell, Memory, within, first_of}
+use Rattle.std.proofs.Common.{◌≡◌, ℕ, ◌+◌, ◌*◌, ◌/◌, ◌%◌, ◌<◌, ◌≤◌, ◌⊎◌, true, cond, ltb, ◌&&◌, List, [], ◌∷◌, ◌++◌, map, None, refl, sym, ap, ◌∙◌, subst, inl, inr, arith}
+use Rattle.std.proofs.lemmas.Bool.{cases_Bool, ltb-true, ltb-false, and_parts, cond_both}
 use Rattle.elf32_read.specs.declared.image.Phdr.{Phdr}
-use Rattle.elf32_read.specs.declared.image.Segment.{Segment}
-use Rattle.elf32_read.specs.Fields.{is_load, maps, has_exec, has_write, has_read, segment_of, segments, headers}
+use Rattle.elf32_read.specs.Fields.{maps}
 use Rattle.elf32_read.specs.Faults.{or_else, header_fault, headers_fault, free_after}
-use Rattle.elf32_read.specs.Load.{segment_cell, load_in, load}
-use Rattle.mv_rewrite.specs.Layout.{up, is_apart}
-use Rattle.mv_rewrite.specs.File.{head_len, kept_header, added_header, with_added}
-use Rattle.mv_rewrite.specs.Relocated.{idle_cell, without_exec}
-use Rattle.mv_rewrite.proofs.EntryWords.{within_parts}
-use Rattle.mv_rewrite.proofs.Parts.{Stands, IsHeader}
-use Rattle.mv_rewrite.proofs.Fine.{neither, IsLoaded, IsMapped, IsFine, fine_is, fine_none, fine_more, IsKept, is_kept, kept_load, kept_maps, kept_fine, moved_offset}
+use Rattle.mv_rewrite.specs.Layout.{up}
+use Rattle.mv_rewrite.specs.File.{kept_header, added_header, with_added}
+use Rattle.mv_rewrite.proofs.Fine.{neither, IsFine, fine_is, fine_none, fine_more, is_kept, kept_maps, kept_fine}
 
 -- ---- the block and its headers
 
@@ -124,13 +115,13 @@ kept_all len len' free free' i j (h ∷ hs) small long le e =
     let q = fine_parts len free i h hs e in
     let fine = fine_more len len free free' h (omega arith) (λ t. omega (arith, le, (q.0.mapped t).first_page)) q.0 in
     let next : free_after free' (kept_header h) ≤ free_after free h =
-        subst (λ n. n ≤ free_after free h) (sym (kept_free free' h))
-          (elim (cases_Bool (maps h)) [
-            | inl t ↦ omega (arith, ap (λ u. cond u ((h.vaddr + h.memsz + 4095) / 4096) free') t, ap (λ u. cond u ((h.vaddr + h.memsz + 4095) / 4096) free) t)
-            | inr t ↦ omega (arith, le, ap (λ u. cond u ((h.vaddr + h.memsz + 4095) / 4096) free') t, ap (λ u. cond u ((h.vaddr + h.memsz + 4095) / 4096) free) t)
-          ]) in
+    subst (λ n. n ≤ free_after free h) (sym (kept_free free' h))
+    (elim (cases_Bool (maps h)) [
+      | inl t ↦ omega (arith, ap (λ u. cond u ((h.vaddr + h.memsz + 4095) / 4096) free') t, ap (λ u. cond u ((h.vaddr + h.memsz + 4095) / 4096) free) t)
+      | inr t ↦ omega (arith, le, ap (λ u. cond u ((h.vaddr + h.memsz + 4095) / 4096) free') t, ap (λ u. cond u ((h.vaddr + h.memsz + 4095) / 4096) free) t)
+    ]) in
     fine_join len' free' j (kept_header h) (map kept_header hs) (kept_fine len len' free' h small long fine)
-      (kept_all len len' (free_after free h) (free_after free' (kept_header h)) (i + 1) (j + 1) hs small long next q.1)
+    (kept_all len len' (free_after free h) (free_after free' (kept_header h)) (i + 1) (j + 1) hs small long next q.1)
 
 -- the same, where headers from one on lie above the block
 kept_above : (len len' free free' i j : ℕ) (h : Phdr) (hs : List Phdr) → len ≤ 67108864 → len + 0x1000 ≤ len' → maps h ≡ true → free' ≤ h.vaddr / 4096 → headers_fault len free i (h ∷ hs) ≡ None → headers_fault len' free' j (map kept_header (h ∷ hs)) ≡ None
@@ -138,10 +129,10 @@ kept_above len len' free free' i j h hs small long m le e =
     let q = fine_parts len free i h hs e in
     let fine = fine_more len len free free' h (omega arith) (λ t. le) q.0 in
     let next : free_after free' (kept_header h) ≤ free_after free h =
-        subst (λ n. n ≤ free_after free h) (sym (kept_free free' h))
-          (omega (arith, ap (λ u. cond u ((h.vaddr + h.memsz + 4095) / 4096) free') m, ap (λ u. cond u ((h.vaddr + h.memsz + 4095) / 4096) free) m)) in
+    subst (λ n. n ≤ free_after free h) (sym (kept_free free' h))
+    (omega (arith, ap (λ u. cond u ((h.vaddr + h.memsz + 4095) / 4096) free') m, ap (λ u. cond u ((h.vaddr + h.memsz + 4095) / 4096) free) m)) in
     fine_join len' free' j (kept_header h) (map kept_header hs) (kept_fine len len' free' h small long fine)
-      (kept_all len len' (free_after free h) (free_after free' (kept_header h)) (i + 1) (j + 1) hs small long next q.1)
+    (kept_all len len' (free_after free h) (free_after free' (kept_header h)) (i + 1) (j + 1) hs small long next q.1)
 
 pub fine_output : (len len' free free' i j : ℕ) (k : Block) (hs : List Phdr) → len ≤ 67108864 → len + 0x1000 ≤ len' → IsBlock len' k → free' ≤ free → free' ≤ k.page → AreApart k hs → headers_fault len free i hs ≡ None
     → headers_fault len' free' j (with_added k.base (block_headers k) hs) ≡ None
@@ -160,25 +151,25 @@ fine_output len len' free free' i j k (h ∷ hs) small long is le low apart e =
           ] in
           ap (λ u. headers_fault len' free' j (cond u (added ++ map kept_header (h ∷ hs)) (kept_header h ∷ with_added k.base added hs))) t
           ∙ fine_block len' free' k is low j (map kept_header (h ∷ hs))
-            (λ f n up. kept_above len len' free f i n h hs small long q.0 (omega (arith, up, page)) e)
+          (λ f n up. kept_above len len' free f i n h hs small long q.0 (omega (arith, up, page)) e)
       | inr t ↦
           let q = fine_parts len free i h hs e in
           let fine = fine_more len len free free' h (omega arith) (λ m. omega (arith, le, (q.0.mapped m).first_page)) q.0 in
           let ends : maps h ≡ true → (h.vaddr + h.memsz + 4095) / 4096 ≤ k.page =
-              λ m. let low : h.vaddr ≤ k.base = ltb-false k.base h.vaddr (sym (ap (λ u. u && ltb k.base h.vaddr) m) ∙ t) in
-                elim (apart.0 m) [
-                  | inl up ↦ absurd (omega (arith, up, low, is.at, is.some))
-                  | inr down ↦ down
-                ] in
+          λ m. let low : h.vaddr ≤ k.base = ltb-false k.base h.vaddr (sym (ap (λ u. u && ltb k.base h.vaddr) m) ∙ t) in
+          elim (apart.0 m) [
+            | inl up ↦ absurd (omega (arith, up, low, is.at, is.some))
+            | inr down ↦ down
+          ] in
           let next : free_after free' (kept_header h) ≤ free_after free h =
-              subst (λ n. n ≤ free_after free h) (sym (kept_free free' h))
-                (elim (cases_Bool (maps h)) [
-                  | inl m ↦ omega (arith, ap (λ u. cond u ((h.vaddr + h.memsz + 4095) / 4096) free') m, ap (λ u. cond u ((h.vaddr + h.memsz + 4095) / 4096) free) m)
-                  | inr m ↦ omega (arith, le, ap (λ u. cond u ((h.vaddr + h.memsz + 4095) / 4096) free') m, ap (λ u. cond u ((h.vaddr + h.memsz + 4095) / 4096) free) m)
-                ]) in
+          subst (λ n. n ≤ free_after free h) (sym (kept_free free' h))
+          (elim (cases_Bool (maps h)) [
+            | inl m ↦ omega (arith, ap (λ u. cond u ((h.vaddr + h.memsz + 4095) / 4096) free') m, ap (λ u. cond u ((h.vaddr + h.memsz + 4095) / 4096) free) m)
+            | inr m ↦ omega (arith, le, ap (λ u. cond u ((h.vaddr + h.memsz + 4095) / 4096) free') m, ap (λ u. cond u ((h.vaddr + h.memsz + 4095) / 4096) free) m)
+          ]) in
           let next_low : free_after free' (kept_header h) ≤ k.page =
-              subst (λ n. n ≤ k.page) (sym (kept_free free' h)) (cond_both (maps h) ((h.vaddr + h.memsz + 4095) / 4096) free' (λ n. n ≤ k.page) ends (λ _. low)) in
+          subst (λ n. n ≤ k.page) (sym (kept_free free' h)) (cond_both (maps h) ((h.vaddr + h.memsz + 4095) / 4096) free' (λ n. n ≤ k.page) ends (λ _. low)) in
           ap (λ u. headers_fault len' free' j (cond u (added ++ map kept_header (h ∷ hs)) (kept_header h ∷ with_added k.base added hs))) t
           ∙ fine_join len' free' j (kept_header h) (with_added k.base added hs) (kept_fine len len' free' h small long fine)
-            (fine_output len len' (free_after free h) (free_after free' (kept_header h)) (i + 1) (j + 1) k hs small long is next next_low apart.1 q.1)
+          (fine_output len len' (free_after free h) (free_after free' (kept_header h)) (i + 1) (j + 1) k hs small long is next next_low apart.1 q.1)
     ]

@@ -1,24 +1,22 @@
 -- From where the plan's bytes are loaded to what stands at each site's entry.
-use Rattle.std.proofs.Common.{◌≡◌, ◌≢◌, ℕ, zero, suc, ◌+◌, ◌-◌, ◌*◌, ◌/◌, ◌^◌, ◌<◌, ◌≤◌, Bool, true, false, cond, eqb, ltb, leb, List, [], ◌∷◌, ◌++◌, length, get_or, Option, Some, None, refl, sym, ap, ◌∙◌, subst, inl, inr, arith}
+use Rattle.std.proofs.Common.{◌≡◌, ℕ, ◌+◌, ◌-◌, ◌*◌, ◌^◌, ◌<◌, ◌≤◌, true, false, cond, eqb, ltb, leb, List, [], length, Option, Some, None, refl, sym, ap, ◌∙◌, subst, arith}
 use mathlib.Core.Path.{fun_ext}
-use Rattle.std.specs.Prelude.{slice_index, replicate, is_some}
-use Rattle.std.specs.List.{filter_map}
-use Rattle.std.proofs.lemmas.List.{length-append, get_or_append_left}
+use Rattle.std.specs.Prelude.{slice_index, replicate}
+use Rattle.std.proofs.lemmas.List.{get_or_append_left}
 use Rattle.std.proofs.lemmas.Bool.{ne_eqb, le-leb, lt-ltb, lt-leb, and_from, and_left, cond_both}
 use Rattle.std.proofs.lemmas.Option.{none-some}
-use Rattle.mv_base.specs.Memory.{Cell, Memory, exec_byte, exec_byte_of, is_writable, cell_is, within}
+use Rattle.mv_base.specs.Memory.{exec_byte_of, cell_is}
 use Rattle.mv_base.specs.Table.{entry_or, flat_entry, flat_word, run_of}
 use Rattle.elf32_read.specs.Load.{load}
 use Rattle.elf32_read.specs.Runs.{runs_of, code_of}
 use Rattle.mv_rewrite.specs.declared.site.Site.{Site}
-use Rattle.mv_rewrite.specs.declared.plan.Plan.{Plan}
 use Rattle.mv_rewrite.specs.Sites.{site_at, code_in, addresses, sites, sites_in}
-use Rattle.mv_rewrite.specs.Pieces.{piece, with_join, filled, slot_len, slot, slots}
-use Rattle.mv_rewrite.specs.Layout.{up, entry_in, moved, places, table, run_places, code_len, table_len, private_len, size, pairs_at, plan_at}
-use Rattle.mv_rewrite.specs.Frame.{Frame, frame_map, frame_entry, frame_table, is_added, is_private}
+use Rattle.mv_rewrite.specs.Pieces.{piece, with_join, slot_len, slot}
+use Rattle.mv_rewrite.specs.Layout.{up, entry_in, moved, table, run_places, code_len, table_len, private_len, size, pairs_at, plan_at}
+use Rattle.mv_rewrite.specs.Frame.{Frame, frame_map, frame_entry, frame_table}
 use Rattle.mv_rewrite.specs.Relocated.{StandAt, PieceAt}
 use Rattle.mv_rewrite.proofs.EntryWords.{entry_where, flat_in}
-use Rattle.mv_rewrite.proofs.SlotPlaces.{IsSiteAt, is_site_at, length-with_join, HasSlot, has_slot, no_entry, length-slots, entry_in-le, IsAmong, address_among}
+use Rattle.mv_rewrite.proofs.SlotPlaces.{IsSiteAt, is_site_at, length-with_join, HasSlot, has_slot, no_entry, length-slots, entry_in-le, address_among}
 
 -- the plan's code and table are loaded where the frame says
 pub record IsPlaced (b : List ℕ) (base : ℕ) (x : List ℕ) (f : Frame) : Type 0 where
@@ -115,9 +113,9 @@ module _ (b : List ℕ) (base : ℕ) (x : List ℕ) (f : Frame) (h : IsPlaced b 
       let inside : (i : ℕ) → i < length w → 32 * p.k + i < 32 * length (sites b) = λ i lt. omega (arith, lt, short, p.among) in
       let place : (i : ℕ) → base + 32 * p.k + i ≡ base + (32 * p.k + i) = λ i. omega arith in
       let byte : (i : ℕ) → i < length w → slice_index (plan_at b base).code (32 * p.k + i) ≡ slice_index w i =
-          λ i lt. p.bytes i (omega (arith, lt, short)) ∙ get_or_append_left w (replicate (slot_len - length w) 0) 0 i lt in
+      λ i lt. p.bytes i (omega (arith, lt, short)) ∙ get_or_append_left w (replicate (slot_len - length w) 0) 0 i lt in
       let cell : (i : ℕ) → i < length w → load x (here + i) ≡ Some (record { byte = slice_index w i; write = false; exec = true }) =
-          λ i lt. ap (load x) (place i) ∙ (h.cells (32 * p.k + i) (omega (arith, code-len, inside i lt)) ∙ ap (λ n. Some (record { byte = n; write = false; exec = true })) (byte i lt)) in
+      λ i lt. ap (load x) (place i) ∙ (h.cells (32 * p.k + i) (omega (arith, code-len, inside i lt)) ∙ ap (λ n. Some (record { byte = n; write = false; exec = true })) (byte i lt)) in
       record {
         byte = λ i lt. ap exec_byte_of (cell i lt);
         fixed = λ i lt. ap (cell_is (λ c. c.write)) (cell i lt);

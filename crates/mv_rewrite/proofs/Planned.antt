@@ -1,16 +1,14 @@
 -- The plan of any image: its block, and the file that it gives.
-use Rattle.std.proofs.Common.{lit<, ◌≡◌, ◌≢◌, ℕ, zero, suc, ◌+◌, ◌-◌, ◌*◌, ◌/◌, ◌%◌, ◌^◌, ◌<◌, ◌≤◌, ◌⊎◌, Bool, true, false, not, cond, eqb, leb, ltb, ◌&&◌, ◌||◌, List, [], ◌∷◌, ◌++◌, length, get_or, drop, map, Option, Some, None, refl, sym, ap, ◌∙◌, subst, inl, inr, arith}
-use Rattle.std.specs.Prelude.{slice_index}
+use Rattle.std.proofs.Common.{lit<, ◌≡◌, ℕ, zero, suc, ◌+◌, ◌*◌, ◌/◌, ◌%◌, ◌^◌, ◌<◌, ◌≤◌, Bool, true, false, not, cond, eqb, leb, ltb, ◌&&◌, List, [], ◌∷◌, ◌++◌, length, drop, map, Option, Some, None, refl, sym, ap, ◌∙◌, subst, inl, inr, arith}
 use Rattle.std.specs.List.{list_any, list_all, filter_map, cons_option, sum_by, range_with_len, AllByRecursion}
 use Rattle.std.specs.Option.{option_map}
 use Rattle.std.proofs.lemmas.List.{length-append, length-map, get_or-drop}
 use Rattle.std.proofs.lemmas.List.FromFn.{length-range_with_len}
 use Rattle.std.proofs.lemmas.List.Sums.{sum_by-cons}
-use Rattle.std.proofs.lemmas.Bool.{true≢false, cases_Bool, leb-true, ltb-true, ltb-false, and_parts, and_cases, or_cases, or_left, or_right, cond_both}
+use Rattle.std.proofs.lemmas.Bool.{true≢false, cases_Bool, leb-true, ltb-false, and_parts, or_cases, or_left, or_right, cond_both}
 use Rattle.std.proofs.lemmas.Option.{none-some, same_Some}
 use Rattle.byteorder.specs.Numbers.{little_from-lt}
 use Rattle.mv_base.specs.Bytes.{AreBytes, word_at, words}
-use Rattle.mv_base.specs.Memory.{within}
 use Rattle.mv_base.specs.declared.range.RunPlace.{RunPlace}
 use Rattle.elf32_read.specs.declared.image.Phdr.{Phdr}
 use Rattle.elf32_read.specs.declared.image.Segment.{Segment}
@@ -20,15 +18,14 @@ use Rattle.elf32_read.specs.Faults.{or_else, fault_if, head_fault, headers_fault
 use Rattle.elf32_read.specs.declared.fault.ImageFault.TheVariants.{ShortHeader, NoLoad}
 use Rattle.elf32_read.specs.Runs.{runs_of, code_of}
 use Rattle.elf32_read.specs.Runs as runs
-use Rattle.mv_rewrite.specs.declared.plan.Plan.{Plan}
 use Rattle.mv_rewrite.specs.Sites.{code_in, addresses, run_addresses, sites, sites_in}
-use Rattle.mv_rewrite.specs.Layout.{up, moved, entry_in, is_apart, has_room, lowest, first_fit, base_of, size, code_len, table_len, private_len, pairs_at, run_places, table, plan_at}
-use Rattle.mv_rewrite.specs.File.{head_len, code_place, table_of, kept_header, added_header, added_headers, with_added, new_headers, file_of}
+use Rattle.mv_rewrite.specs.Layout.{up, moved, entry_in, is_apart, has_room, lowest, first_fit, base_of, size, code_len, table_len, pairs_at, run_places, table, plan_at}
+use Rattle.mv_rewrite.specs.File.{head_len, code_place, table_of, kept_header, added_header, with_added, new_headers, file_of}
 use Rattle.mv_rewrite.proofs.EntryWords.{length-words}
 use Rattle.mv_rewrite.proofs.SlotPlaces.{length-slots, entry_in-le}
 use Rattle.mv_rewrite.proofs.Parts.{IsHeader}
 use Rattle.mv_rewrite.proofs.Written.{IsWritable, IsWritten, written}
-use Rattle.mv_rewrite.proofs.Fine.{passed, neither, IsKept, is_kept}
+use Rattle.mv_rewrite.proofs.Fine.{passed, neither}
 use Rattle.mv_rewrite.proofs.NewHeaders.{Block, IsBlock, block_size, code_of_block, table_of_block, private_of_block, block_headers, AreApart, fine_output}
 
 -- ---- the lowest number that passes
@@ -176,24 +173,24 @@ unfolding with_added
 with_added_fit base g1 g2 g3 [] e1 e2 e3 are = (e1, (e2, (e3, tt)))
 with_added_fit base g1 g2 g3 (h ∷ hs) e1 e2 e3 are =
     cond_both (maps h && ltb base h.vaddr) ((g1 ∷ g2 ∷ g3 ∷ []) ++ map kept_header (h ∷ hs)) (kept_header h ∷ with_added base (g1 ∷ g2 ∷ g3 ∷ []) hs) (AllByRecursion IsHeader)
-      (λ _. three_and g1 g2 g3 (map kept_header (h ∷ hs)) e1 e2 e3 (kept_all_fit (h ∷ hs) are))
-      (λ _. (kept_fits h are.0, with_added_fit base g1 g2 g3 hs e1 e2 e3 are.1))
+    (λ _. three_and g1 g2 g3 (map kept_header (h ∷ hs)) e1 e2 e3 (kept_all_fit (h ∷ hs) are))
+    (λ _. (kept_fits h are.0, with_added_fit base g1 g2 g3 hs e1 e2 e3 are.1))
 
 length-with_added : (base : ℕ) (added hs : List Phdr) → length (with_added base added hs) ≡ length added + length hs
 unfolding with_added
 length-with_added base added [] = omega arith
 length-with_added base added (h ∷ hs) =
     cond_both (maps h && ltb base h.vaddr) (added ++ map kept_header (h ∷ hs)) (kept_header h ∷ with_added base added hs) (λ l. length l ≡ length added + length (h ∷ hs))
-      (λ _. omega (arith, length-append added (map kept_header (h ∷ hs)), length-map hs kept_header))
-      (λ _. omega (arith, length-with_added base added hs))
+    (λ _. omega (arith, length-append added (map kept_header (h ∷ hs)), length-map hs kept_header))
+    (λ _. omega (arith, length-with_added base added hs))
 
 loads_some : (base : ℕ) (g : Phdr) (gs hs : List Phdr) → is_load g ≡ true → list_any is_load (with_added base (g ∷ gs) hs) ≡ true
 unfolding with_added
 loads_some base g gs [] l = or_left (is_load g) (list_any is_load gs) l
 loads_some base g gs (h ∷ hs) l =
     cond_both (maps h && ltb base h.vaddr) ((g ∷ gs) ++ map kept_header (h ∷ hs)) (kept_header h ∷ with_added base (g ∷ gs) hs) (λ hs. list_any is_load hs ≡ true)
-      (λ _. or_left (is_load g) (list_any is_load (gs ++ map kept_header (h ∷ hs))) l)
-      (λ _. or_right (is_load (kept_header h)) (list_any is_load (with_added base (g ∷ gs) hs)) (loads_some base g gs hs l))
+    (λ _. or_left (is_load g) (list_any is_load (gs ++ map kept_header (h ∷ hs))) l)
+    (λ _. or_right (is_load (kept_header h)) (list_any is_load (with_added base (g ∷ gs) hs)) (loads_some base g gs hs l))
 
 -- each header's segment is apart from the block
 apart_headers : (k : Block) (hs : List Phdr) → list_all (is_apart k.page (k.page + block_size k / 4096)) (filter_map segment_of hs) ≡ true → AreApart k hs
@@ -204,11 +201,13 @@ apart_headers k (h ∷ hs) e =
     elim (cases_Bool (maps h)) [
       | inl m ↦
           let e' : list_all (is_apart k.page to) (seg ∷ filter_map segment_of hs) ≡ true = sym (ap (λ t. list_all (is_apart k.page to) (cons_option (cond t (Some seg) None) (filter_map segment_of hs))) m) ∙ e in
-          let q = and_parts (is_apart k.page to seg) (list_all (is_apart k.page to) (filter_map segment_of hs)) e' in
-          (λ _. elim (or_cases (leb to (h.vaddr / 4096)) (leb ((h.vaddr + h.memsz + 4095) / 4096) k.page) q.0) [
-            | inl t ↦ inl (leb-true to (h.vaddr / 4096) t)
-            | inr t ↦ inr (leb-true ((h.vaddr + h.memsz + 4095) / 4096) k.page t)
-          ], apart_headers k hs q.1)
+          let q = and_parts (is_apart k.page to seg) (list_all (is_apart k.page to) (filter_map segment_of hs)) e' in (
+            λ _. elim (or_cases (leb to (h.vaddr / 4096)) (leb ((h.vaddr + h.memsz + 4095) / 4096) k.page) q.0) [
+              | inl t ↦ inl (leb-true to (h.vaddr / 4096) t)
+              | inr t ↦ inr (leb-true ((h.vaddr + h.memsz + 4095) / 4096) k.page t)
+            ],
+            apart_headers k hs q.1,
+          )
       | inr m ↦
           let e' : list_all (is_apart k.page to) (filter_map segment_of hs) ≡ true = sym (ap (λ t. list_all (is_apart k.page to) (cons_option (cond t (Some seg) None) (filter_map segment_of hs))) m) ∙ e in
           (λ t. absurd (true≢false (sym t ∙ m)), apart_headers k hs e')
@@ -232,7 +231,7 @@ module _ (b : List ℕ) (base : ℕ) (is : IsInput b base) where
   unfolding plan_at
   headers_are =
       ap (λ l. with_added base l (headers b))
-        (ap (λ c. added_by (code_place (length b)) base c (length (table_of (plan_at b base)))) (length-code b base) ∙ ap (λ t. added_by (code_place (length b)) base (code_len b) t) (length-table_of b base))
+      (ap (λ c. added_by (code_place (length b)) base c (length (table_of (plan_at b base)))) (length-code b base) ∙ ap (λ t. added_by (code_place (length b)) base (code_len b) t) (length-table_of b base))
 
   pub entry_bound : (a : ℕ) → entry_in (pairs_at b base) a < 2 ^ 32
   entry_bound a = omega (arith, entry_in-le (sites b) base a, room.low, size_is b base)
@@ -247,10 +246,10 @@ module _ (b : List ℕ) (base : ℕ) (is : IsInput b base) where
       let l = room.low in
       let s = size_is b base in
       with_added_fit base (code_of_block block) (table_of_block block) (private_of_block block) (headers b)
-        (record { kind = lit< tt; offset = omega (arith, is.small); vaddr = omega (arith, l); paddr = omega (arith, l); filesz = omega (arith, l, s); memsz = omega (arith, l, s); flags = lit< tt; align = lit< tt })
-        (record { kind = lit< tt; offset = omega (arith, is.small, l, s, room.at, room.from); vaddr = omega (arith, l, s); paddr = omega (arith, l, s); filesz = omega (arith, l, s); memsz = omega (arith, l, s); flags = lit< tt; align = lit< tt })
-        (record { kind = lit< tt; offset = omega (arith, is.small, l, s, room.at, room.from); vaddr = omega (arith, l, s); paddr = omega (arith, l, s); filesz = lit< tt; memsz = lit< tt; flags = lit< tt; align = lit< tt })
-        (headers_fit b is.bytes)
+      (record { kind = lit< tt; offset = omega (arith, is.small); vaddr = omega (arith, l); paddr = omega (arith, l); filesz = omega (arith, l, s); memsz = omega (arith, l, s); flags = lit< tt; align = lit< tt })
+      (record { kind = lit< tt; offset = omega (arith, is.small, l, s, room.at, room.from); vaddr = omega (arith, l, s); paddr = omega (arith, l, s); filesz = omega (arith, l, s); memsz = omega (arith, l, s); flags = lit< tt; align = lit< tt })
+      (record { kind = lit< tt; offset = omega (arith, is.small, l, s, room.at, room.from); vaddr = omega (arith, l, s); paddr = omega (arith, l, s); filesz = lit< tt; memsz = lit< tt; flags = lit< tt; align = lit< tt })
+      (headers_fit b is.bytes)
 
   length-new : length (new_headers b (plan_at b base)) ≡ 3 + header_count b
   length-new = ap (λ (l : List Phdr). length l) headers_are ∙ (length-with_added base (block_headers block) (headers b) ∙ ap (λ n. 3 + n) (length-headers b))
@@ -308,7 +307,7 @@ module _ (b : List ℕ) (base : ℕ) (is : IsInput b base) where
       let x = file_of b (plan_at b base) in
       let hs = with_added base (block_headers block) (headers b) in
       let fine : headers_fault (length x) 0 0 hs ≡ None =
-          fine_output (length b) (length x) 0 0 0 0 block (headers b) is.small (omega (arith, length-output)) is_block (omega arith) (omega arith) headers_apart headers_none in
+      fine_output (length b) (length x) 0 0 0 0 block (headers b) is.small (omega (arith, length-output)) is_block (omega arith) (omega arith) headers_apart headers_none in
       ap (λ o. or_else o (or_else (headers_fault (length x) 0 0 (headers x)) (fault_if (not (list_any is_load (headers x))) NoLoad))) wrote.no_fault
       ∙ (ap (λ l. or_else (headers_fault (length x) 0 0 l) (fault_if (not (list_any is_load l)) NoLoad)) output_headers
       ∙ (ap (λ o. or_else o (fault_if (not (list_any is_load hs)) NoLoad)) fine

@@ -1,34 +1,29 @@
 -- The frame of an output.
-use Rattle.std.proofs.Common.{lit<, ◌≡◌, ◌≢◌, ℕ, zero, suc, ◌+◌, ◌-◌, ◌*◌, ◌/◌, ◌%◌, ◌^◌, ◌<◌, ◌≤◌, ◌⊎◌, Bool, true, false, cond, eqb, leb, ltb, ◌&&◌, List, [], ◌∷◌, ◌++◌, length, get_or, take, drop, map, Option, Some, None, refl, sym, ap, ◌∙◌, subst, inl, inr, arith, append-nil}
+use Rattle.std.proofs.Common.{lit<, ◌≡◌, ℕ, ◌+◌, ◌-◌, ◌*◌, ◌%◌, ◌^◌, ◌<◌, ◌≤◌, true, cond, eqb, leb, ltb, ◌&&◌, List, [], ◌∷◌, ◌++◌, length, get_or, take, drop, map, Some, None, refl, sym, ap, ◌∙◌, subst, arith, append-nil}
 use mathlib.Core.Path.{fun_ext}
-use Rattle.std.specs.Prelude.{slice_index}
 use Rattle.std.specs.List.{flat_map, range_with_len, sum_by, AllByRecursion}
-use Rattle.std.proofs.lemmas.List.{length-append, length-take, length-drop, get_or-take, get_or-drop, get_or_append_left, ext_get_or}
+use Rattle.std.proofs.lemmas.List.{length-take, length-drop, get_or-take, get_or-drop, ext_get_or}
 use Rattle.std.proofs.lemmas.List.Sums.{sum_by-cons}
 use Rattle.std.proofs.lemmas.Bool.{eq-eqb, le-leb, lt-ltb, and_from}
-use Rattle.mv_base.specs.Bytes.{AreBytes, word_at, words}
+use Rattle.mv_base.specs.Bytes.{word_at, words}
 use Rattle.mv_base.specs.declared.range.RunPlace.{RunPlace}
 use Rattle.elf32_read.specs.declared.run.Run.{Run}
 use Rattle.elf32_read.specs.Runs.{runs_of}
 use Rattle.elf32_read.specs.Runs as runs
-use Rattle.mv_rewrite.specs.declared.plan.Plan.{Plan}
-use Rattle.mv_rewrite.specs.Sites.{addresses}
-use Rattle.mv_rewrite.specs.Layout.{up, code_len, table_len, private_len, size, base_of, run_places, plan_at}
+use Rattle.mv_rewrite.specs.Layout.{up, code_len, table_len, private_len, run_places, plan_at}
 use Rattle.mv_rewrite.specs.File.{head_len, code_place, table_of, record_words, place_words, frame_magic, file_of}
 use Rattle.mv_rewrite.specs.Frame.{Frame, field, run_place_at, frame_at, has_record, has_places, has_block, has_runs, has_size, keeps_rules, frame, frame_table}
 use Rattle.mv_rewrite.proofs.EntryWords.{length-words}
 use Rattle.mv_rewrite.proofs.Parts.{Stands, stands_first, stands_second, word_in, words-append}
-use Rattle.mv_rewrite.proofs.Written.{IsWritten}
-use Rattle.mv_rewrite.proofs.NewHeaders.{Block}
-use Rattle.mv_rewrite.proofs.Planned.{length-code, length-table, length-table_of, size_is, plan_runs, length-run_places, run_len, length-addresses, IsInput, HasRoom, room, wrote, length-output}
+use Rattle.mv_rewrite.proofs.Planned.{length-code, length-table, length-table_of, size_is, length-run_places, run_len, length-addresses, IsInput, room, wrote, length-output}
 
 -- the part that stands at a place is what is taken from there
 pub taken : (x part : List ℕ) (p n : ℕ) → length part ≡ n → Stands x p part → take n (drop p x) ≡ part
 taken x part p n len s =
     ext_get_or 0 (take n (drop p x)) part (omega (arith, length-take n (drop p x), length-drop p x, s.room, len))
     (λ i lt.
-        let below : i < n = omega (arith, lt, length-take n (drop p x)) in
-        get_or-take n (drop p x) i 0 below ∙ (get_or-drop p x i 0 ∙ s.byte i (omega (arith, below, len))))
+    let below : i < n = omega (arith, lt, length-take n (drop p x)) in
+    get_or-take n (drop p x) i 0 below ∙ (get_or-drop p x i 0 ∙ s.byte i (omega (arith, below, len))))
 
 -- ---- the words of the record
 
@@ -111,7 +106,7 @@ runs_keep f from dir (r ∷ rs) apart low le =
     let c3 : leb f.table.lo dir ≡ true = le-leb f.table.lo dir low in
     let c4 : leb (dir + 4 * length r.bytes) f.list ≡ true = le-leb (dir + 4 * length r.bytes) f.list (omega (arith, le, more)) in
     and_from _ _ (and_from _ _ (and_from _ _ (and_from _ _ (and_from _ _ c0 c1) c2) c3) c4)
-      (runs_keep f (r.lo + length r.bytes + 1) (dir + 4 * length r.bytes) rs apart.3 (omega (arith, low)) (omega (arith, le, more)))
+    (runs_keep f (r.lo + length r.bytes + 1) (dir + 4 * length r.bytes) rs apart.3 (omega (arith, low)) (omega (arith, le, more)))
 
 abbrev place_len : RunPlace → ℕ
 place_len r = r.len
@@ -182,7 +177,7 @@ module _ (b : List ℕ) (base : ℕ) (is : IsInput b base) where
       ap (λ n. map (run_place_at x) (range_with_len 0 n)) f15
       ∙ (ap (λ g. map g (range_with_len 0 (length (places_of b base)))) (fun_ext run_place_is)
       ∙ places_read x (places_of b base) (0x900 + 64) 0 places_stand
-        (places_fit 0 (base + up (code_len b)) (base + up (code_len b) + up (table_len b)) (runs_of b) is.runs_apart (omega (arith, table_is_len)) (omega (arith, below))))
+      (places_fit 0 (base + up (code_len b)) (base + up (code_len b) + up (table_len b)) (runs_of b) is.runs_apart (omega (arith, table_is_len)) (omega (arith, below))))
 
   pub frame_read : frame_at x ≡ frame_is b base
   unfolding frame_at

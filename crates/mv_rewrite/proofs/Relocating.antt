@@ -1,23 +1,21 @@
 -- An output is relocated.
-use Rattle.std.proofs.Common.{◌≡◌, ◌≢◌, ℕ, zero, suc, ◌+◌, ◌-◌, ◌*◌, ◌/◌, ◌^◌, ◌<◌, ◌≤◌, ◌⊎◌, Bool, true, false, not, cond, leb, ltb, ◌&&◌, List, [], ◌∷◌, length, map, Option, Some, None, refl, sym, ap, ◌∙◌, subst, inl, inr, arith}
-use Rattle.std.proofs.lemmas.Bool.{cases_Bool, cases_lt, and_parts, and_from, and_cases, lt-ltb, ltb-false, true≢false}
-use Rattle.std.proofs.lemmas.Option.{none-some}
-use Rattle.mv_base.specs.Memory.{Cell, Memory, within, first_of, is_writable, is_executable, cell_is}
+use Rattle.std.proofs.Common.{◌≡◌, ℕ, ◌+◌, Bool, true, false, ltb, List, [], ◌∷◌, length, Option, Some, None, refl, sym, ap, ◌∙◌, inl, inr, arith}
+use Rattle.std.proofs.lemmas.Bool.{cases_Bool, cases_lt, and_from, and_cases, lt-ltb, ltb-false, true≢false}
+use Rattle.mv_base.specs.Memory.{Cell, within, first_of, cell_is}
 use Rattle.elf32_read.specs.declared.image.Phdr.{Phdr}
 use Rattle.elf32_read.specs.Fields.{headers, entry_at, is_load, maps, has_write, has_exec}
 use Rattle.elf32_read.specs.Faults.{headers_fault, free_after}
 use Rattle.elf32_read.specs.Load.{load}
-use Rattle.mv_rewrite.specs.Layout.{up, code_len, table_len, size, plan_at}
-use Rattle.mv_rewrite.specs.File.{kept_header, with_added, file_of}
-use Rattle.mv_rewrite.specs.Frame.{Frame, frame_map, is_added, is_private}
+use Rattle.mv_rewrite.specs.Layout.{up, code_len, table_len, plan_at}
+use Rattle.mv_rewrite.specs.File.{with_added, file_of}
+use Rattle.mv_rewrite.specs.Frame.{is_added, is_private}
 use Rattle.mv_rewrite.specs.Relocated.{IsRelocated, without_exec}
 use Rattle.mv_rewrite.proofs.EntryWords.{within_parts}
-use Rattle.mv_rewrite.proofs.Written.{IsWritten}
 use Rattle.mv_rewrite.proofs.Placed.{IsPlaced, map_is, others, mapped, pieces}
-use Rattle.mv_rewrite.proofs.Fine.{IsMapped, IsFine}
-use Rattle.mv_rewrite.proofs.NewHeaders.{Block, IsBlock, block_size, block_headers, AreApart, fine_parts}
-use Rattle.mv_rewrite.proofs.NewCells.{not_within, header_cell, inner_cell, cells_of, loads, cell_inside, cell_outside, cell_unloaded, within_not, kept_cells, InBlock, OutOfBlock, output_out, output_in, code_cell, block_fixed, private_cell}
-use Rattle.mv_rewrite.proofs.Planned.{length-code, size_is, plan_runs, IsInput, HasRoom, room, block, headers_none, wrote, is_block, headers_apart, output_headers, admitted}
+use Rattle.mv_rewrite.proofs.Fine.{IsFine}
+use Rattle.mv_rewrite.proofs.NewHeaders.{Block, IsBlock, block_headers, AreApart, fine_parts}
+use Rattle.mv_rewrite.proofs.NewCells.{not_within, header_cell, cells_of, loads, cell_inside, cell_outside, cell_unloaded, within_not, kept_cells, InBlock, OutOfBlock, output_out, output_in, code_cell, block_fixed, private_cell}
+use Rattle.mv_rewrite.proofs.Planned.{length-code, size_is, IsInput, room, block, headers_none, wrote, is_block, headers_apart, output_headers, admitted}
 use Rattle.mv_rewrite.proofs.Recorded.{frame_is, framed, table_there}
 
 -- ---- the input's cells
@@ -28,13 +26,13 @@ input_out b len k [] a is at apart = refl
 input_out b len k (h ∷ hs) a is at apart =
     let none : header_cell b h a ≡ None = elim (cases_Bool (maps h)) [
       | inl m ↦ cell_outside b h a (within_not h.vaddr h.memsz a (elim (apart.0 m) [
-            | inl up ↦ inl (omega (arith, up, at.below, is.at))
-            | inr down ↦ inr (omega (arith, down, at.from, is.at))
-          ]))
+        | inl up ↦ inl (omega (arith, up, at.below, is.at))
+        | inr down ↦ inr (omega (arith, down, at.from, is.at))
+      ]))
       | inr m ↦ elim (and_cases (is_load h) (ltb 0 h.memsz) m) [
-            | inl l ↦ cell_unloaded b h a l
-            | inr n ↦ cell_outside b h a (within_not h.vaddr h.memsz a (elim (cases_lt a h.vaddr) [ inl lt ↦ inl lt | inr ge ↦ inr (omega (arith, ge, ltb-false 0 h.memsz n)) ]))
-          ]
+        | inl l ↦ cell_unloaded b h a l
+        | inr n ↦ cell_outside b h a (within_not h.vaddr h.memsz a (elim (cases_lt a h.vaddr) [ inl lt ↦ inl lt | inr ge ↦ inr (omega (arith, ge, ltb-false 0 h.memsz n)) ]))
+      ]
     ] in
     ap (λ u. first_of u (cells_of b hs a)) none ∙ input_out b len k hs a is at apart.1
 
@@ -50,16 +48,16 @@ fixed_one b len free h a fine e =
     elim (cases_Bool (is_load h)) [
       | inr l ↦ ap write_of (cell_unloaded b h a l)
       | inl l ↦ elim (cases_Bool (within h.vaddr h.memsz a)) [
-          | inr w ↦ ap write_of (cell_outside b h a w)
-          | inl w ↦
-              let q = within_parts h.vaddr h.memsz a w in
-              let m : maps h ≡ true = and_from (is_load h) (ltb 0 h.memsz) l (lt-ltb 0 h.memsz (omega (arith, q.0, q.1))) in
-              let x : has_exec h ≡ true = sym (ap exec_of (cell_inside b h a l w)) ∙ e in
-              ap write_of (cell_inside b h a l w) ∙ elim (and_cases (has_write h) (has_exec h) (fine.mapped m).fixed) [
-                | inl t ↦ t
-                | inr t ↦ absurd (true≢false (sym x ∙ t))
-              ]
-        ]
+        | inr w ↦ ap write_of (cell_outside b h a w)
+        | inl w ↦
+            let q = within_parts h.vaddr h.memsz a w in
+            let m : maps h ≡ true = and_from (is_load h) (ltb 0 h.memsz) l (lt-ltb 0 h.memsz (omega (arith, q.0, q.1))) in
+            let x : has_exec h ≡ true = sym (ap exec_of (cell_inside b h a l w)) ∙ e in
+            ap write_of (cell_inside b h a l w) ∙ elim (and_cases (has_write h) (has_exec h) (fine.mapped m).fixed) [
+              | inl t ↦ t
+              | inr t ↦ absurd (true≢false (sym x ∙ t))
+            ]
+      ]
     ]
 
 fixed_first : (c d : Option Cell) → (exec_of c ≡ true → write_of c ≡ false) → (exec_of d ≡ true → write_of d ≡ false) → exec_of (first_of c d) ≡ true → write_of (first_of c d) ≡ false
@@ -86,9 +84,9 @@ module _ (b : List ℕ) (base : ℕ) (is : IsInput b base) where
 
   out_block : (a : ℕ) → is_added (frame_is b base) a ≡ false → OutOfBlock (block b base is) a
   out_block a e = elim (not_within base (up (code_len b) + up (table_len b) + 4096) a e) [
-      | inl lt ↦ inl lt
-      | inr le ↦ inr (omega (arith, le))
-    ]
+    | inl lt ↦ inl lt
+    | inr le ↦ inr (omega (arith, le))
+  ]
 
   outside : (a : ℕ) → is_added (frame_is b base) a ≡ false → load x a ≡ without_exec (load b a)
   outside a e =

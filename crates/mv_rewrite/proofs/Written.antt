@@ -1,23 +1,22 @@
 -- What stands where in the file of a plan.
-use Rattle.std.proofs.Common.{◌≡◌, ℕ, zero, suc, ◌+◌, ◌-◌, ◌*◌, ◌/◌, ◌^◌, ◌<◌, ◌≤◌, Bool, true, false, not, cond, eqb, ltb, List, [], ◌∷◌, ◌++◌, length, get_or, take, drop, map, Option, Some, None, refl, sym, ap, ◌∙◌, subst, inl, inr, arith, append_assoc}
-use Rattle.std.specs.Prelude.{slice_index, replicate}
+use Rattle.std.proofs.Common.{◌≡◌, ℕ, ◌+◌, ◌*◌, ◌^◌, ◌<◌, ◌≤◌, false, eqb, ltb, List, [], ◌∷◌, ◌++◌, length, take, drop, map, None, refl, sym, ap, ◌∙◌, subst, arith}
+use Rattle.std.specs.Prelude.{slice_index}
 use Rattle.std.specs.List.{flat_map, range_with_len, AllByRecursion}
-use Rattle.std.proofs.lemmas.Bool.{le-ltb, eq-eqb, ne_eqb}
+use Rattle.std.proofs.lemmas.Bool.{le-ltb, ne_eqb}
 use Rattle.std.proofs.lemmas.List.{length-append, length-take, length-drop, get_or-take, ext_get_or, take-append-drop}
 use Rattle.std.proofs.lemmas.List.FromFn.{fill_by_all}
 use Rattle.byteorder.specs.Numbers.{little_number-reads_back}
-use Rattle.byteorder.specs.Endian.{little_bytes}
 use Rattle.mv_base.specs.Bytes.{word_at, half_at, half, words}
 use Rattle.mv_base.specs.declared.range.RunPlace.{RunPlace}
 use Rattle.elf32_read.specs.declared.image.Phdr.{Phdr}
 use Rattle.elf32_read.specs.Fields.{header_at, headers, header_offset, header_count, entry_at, ident_rest}
-use Rattle.elf32_read.specs.Faults.{has_magic, head_fault}
+use Rattle.elf32_read.specs.Faults.{head_fault}
 use Rattle.mv_rewrite.specs.declared.plan.Plan.{Plan}
 use Rattle.mv_rewrite.specs.Pieces.{filled}
 use Rattle.mv_rewrite.specs.Layout.{up}
 use Rattle.mv_rewrite.specs.File.{padded, table_of, code_place, new_headers, header_words, elf_header, record_words, place_words, head, file_of}
 use Rattle.mv_rewrite.proofs.EntryWords.{length-words}
-use Rattle.mv_rewrite.proofs.Parts.{Stands, stands_whole, stands_left, stands_right, stands_in, stands_first, stands_second, word_alike, half_alike, IsHeader, headers_in, words-append, stands_filled, length-filled}
+use Rattle.mv_rewrite.proofs.Parts.{Stands, stands_whole, stands_left, stands_right, stands_in, stands_first, stands_second, IsHeader, headers_in, words-append, stands_filled, length-filled}
 
 -- what a plan has to keep so that its file can be read again
 pub record IsWritable (b : List ℕ) (p : Plan) : Type 0 where
@@ -82,9 +81,9 @@ begins id flags entry count rest fits some few long =
 begins_with : (x part : List ℕ) (n : ℕ) → length part ≡ n → Stands x 0 part → x ≡ part ++ drop n x
 begins_with x part n len s =
     let front : take n x ≡ part =
-        ext_get_or 0 (take n x) part (omega (arith, length-take n x, s.room, len))
-        (λ i lt. let below : i < n = omega (arith, lt, length-take n x) in
-            get_or-take n x i 0 below ∙ (ap (slice_index x) (let e : i ≡ 0 + i = omega arith in e) ∙ s.byte i (omega (arith, below, len)))) in
+    ext_get_or 0 (take n x) part (omega (arith, length-take n x, s.room, len))
+    (λ i lt. let below : i < n = omega (arith, lt, length-take n x) in
+    get_or-take n x i 0 below ∙ (ap (slice_index x) (let e : i ≡ 0 + i = omega arith in e) ∙ s.byte i (omega (arith, below, len)))) in
     sym (take-append-drop n x) ∙ ap (λ (l : List ℕ). l ++ drop n x) front
 
 up-le : (n : ℕ) → n ≤ up n
@@ -194,26 +193,26 @@ module _ (b : List ℕ) (p : Plan) (ok : IsWritable b p) where
   in_head : (part : List ℕ) (place : ℕ) → Stands (head b p) place part → Stands whole place part
   in_head part place s =
       in_whole part place (stands_left (head b p ++ padded b ++ padded p.code) (padded (table_of p)) part place
-        (stands_left (head b p ++ padded b) (padded p.code) part place (stands_left (head b p) (padded b) part place s)))
+      (stands_left (head b p ++ padded b) (padded p.code) part place (stands_left (head b p) (padded b) part place s)))
 
   in_input : Stands whole 0x1000 b
   in_input =
       in_whole b 0x1000 (stands_left (head b p ++ padded b ++ padded p.code) (padded (table_of p)) b 0x1000
-        (stands_left (head b p ++ padded b) (padded p.code) b 0x1000
-          (let e : 0x1000 + 0 ≡ 0x1000 = omega arith in subst (λ n. Stands (head b p ++ padded b) n b) e (stands_right (head b p) (padded b) b 0x1000 0 length-head (stands_filled (up (length b)) b)))))
+      (stands_left (head b p ++ padded b) (padded p.code) b 0x1000
+      (let e : 0x1000 + 0 ≡ 0x1000 = omega arith in subst (λ n. Stands (head b p ++ padded b) n b) e (stands_right (head b p) (padded b) b 0x1000 0 length-head (stands_filled (up (length b)) b)))))
 
   in_code : Stands whole (code_place (length b)) p.code
   in_code =
       in_whole p.code (code_place (length b)) (stands_left (head b p ++ padded b ++ padded p.code) (padded (table_of p)) p.code (code_place (length b))
-        (let e : code_place (length b) + 0 ≡ code_place (length b) = omega arith in
-          subst (λ n. Stands (head b p ++ padded b ++ padded p.code) n p.code) e (stands_right (head b p ++ padded b) (padded p.code) p.code (code_place (length b)) 0 length-two (stands_filled (up (length p.code)) p.code))))
+      (let e : code_place (length b) + 0 ≡ code_place (length b) = omega arith in
+      subst (λ n. Stands (head b p ++ padded b ++ padded p.code) n p.code) e (stands_right (head b p ++ padded b) (padded p.code) p.code (code_place (length b)) 0 length-two (stands_filled (up (length p.code)) p.code))))
 
   in_table : Stands whole (code_place (length b) + up (length p.code)) (table_of p)
   in_table =
       in_whole (table_of p) (code_place (length b) + up (length p.code))
-        (let e : code_place (length b) + up (length p.code) + 0 ≡ code_place (length b) + up (length p.code) = omega arith in
-          subst (λ n. Stands (head b p ++ padded b ++ padded p.code ++ padded (table_of p)) n (table_of p)) e
-            (stands_right (head b p ++ padded b ++ padded p.code) (padded (table_of p)) (table_of p) (code_place (length b) + up (length p.code)) 0 length-three (stands_filled (up (length (table_of p))) (table_of p))))
+      (let e : code_place (length b) + up (length p.code) + 0 ≡ code_place (length b) + up (length p.code) = omega arith in
+      subst (λ n. Stands (head b p ++ padded b ++ padded p.code ++ padded (table_of p)) n (table_of p)) e
+      (stands_right (head b p ++ padded b ++ padded p.code) (padded (table_of p)) (table_of p) (code_place (length b) + up (length p.code)) 0 length-three (stands_filled (up (length (table_of p))) (table_of p))))
 
   -- the file begins with the ELF header
   elf_stands : Stands front 0 elf
@@ -228,11 +227,11 @@ module _ (b : List ℕ) (p : Plan) (ok : IsWritable b p) where
   written_begins =
       let r = rest_of in
       let e : whole ≡ elf_list (slice_index (ident_rest b)) (word_at b 36) p.entry (length (new_headers b p)) ++ r.0 =
-          r.1 ∙ ap (λ (l : List ℕ). l ++ r.0) (elf_header_is b p.entry (length (new_headers b p)) ok.ident) in
+      r.1 ∙ ap (λ (l : List ℕ). l ++ r.0) (elf_header_is b p.entry (length (new_headers b p)) ok.ident) in
       let long : 52 + 32 * length (new_headers b p) ≤ length (elf_list (slice_index (ident_rest b)) (word_at b 36) p.entry (length (new_headers b p)) ++ r.0) =
-          omega (arith, length-whole, ok.few_headers, ap (λ (l : List ℕ). length l) e) in
+      omega (arith, length-whole, ok.few_headers, ap (λ (l : List ℕ). length l) e) in
       subst (λ (l : List ℕ). Begins l p.entry (length (new_headers b p))) (sym e)
-        (begins (slice_index (ident_rest b)) (word_at b 36) p.entry (length (new_headers b p)) r.0 ok.entry ok.some_header ok.few_headers long)
+      (begins (slice_index (ident_rest b)) (word_at b 36) p.entry (length (new_headers b p)) r.0 ok.entry ok.some_header ok.few_headers long)
 
   headers_read : headers whole ≡ new_headers b p
   unfolding headers

@@ -1,7 +1,7 @@
 //! The output file of a plan: a head, then the input whole, the code and the table, each up to a whole page.
 //!
 //! `part` appends numbers and bytes, `head` the ELF header and the program headers, `block` the frame record
-//! and what is computed for it.
+//! and what is computed for it; `format` has the numbers that are written.
 
 ghost use Rattle.std.specs.Prelude.{◌≡◌, ◌+◌, ◌≤◌, ◌++◌, [], length, IfOk, OnOk};
 ghost use Rattle.mv_rewrite.specs.File.{head, file_of, padded, table_of, code_place};
@@ -9,20 +9,19 @@ ghost use Rattle.mv_rewrite.specs.Layout.{up as up_of};
 ghost use Rattle.mv_rewrite.specs.Writing.{HasHead, EndsLow, front};
 
 mod block;
+pub mod format;
 mod head;
 pub mod part;
 
 pub use crate::file::block::added_len;
 use crate::file::block::{added_headers, put_record, table_len};
-use crate::file::head::{HEAD_LEN, put_all_headers, put_elf_header};
+use crate::file::format::{HEAD_LEN, RECORD_PLACE};
+use crate::file::head::{put_all_headers, put_elf_header};
 use crate::file::part::{put_padded, put_words, put_zeros, up};
 use crate::plan::Plan;
 use elf32_read::Image;
 use mv_base::NoMemory;
 use std::alloc::Global;
-
-/// Where in the head the frame record stands.
-const RECORD_PLACE: usize = 0x900;
 
 /// The output file of a plan for an input whose image this is: its first bytes are a new ELF header with the
 /// input's program headers and three more, and the frame record; the input follows unchanged.

@@ -12,10 +12,10 @@ mod rules;
 #[cfg(test)]
 mod tests;
 
-use crate::file::part::up;
 use crate::frame::fields::{
-    ADDED_LEN, ADDED_LO, CODE_LEN, CODE_LO, COUNTER_COUNT, FIRST_COUNTER, HEAD_LEN, INPUT_LEN,
-    LIST, PRIVATE_LO, RUN_COUNT, TABLE_LEN, TABLE_LO, field, part, run_place, word,
+    ADDED_LEN, ADDED_LO, CODE_LEN, CODE_LO, COUNTER_COUNT, FIRST_COUNTER, HEAD, INPUT_LEN, LIST,
+    PRIVATE_LO, RUN_COUNT, TABLE_LEN, TABLE_LO, code_place, field, part, run_place, table_place,
+    word,
 };
 use crate::frame::rules::{has_block, has_places, has_record, has_runs, has_size};
 use mv_base::{Range, RunPlace};
@@ -67,7 +67,7 @@ impl Frame<'_> {
     pub fn input(&self) -> &[u8]
         ensures { result.now ≡ frame_input self.now }
     {
-        part(self.file, HEAD_LEN, field(self.file, INPUT_LEN) as usize)
+        part(self.file, HEAD, field(self.file, INPUT_LEN) as usize)
     }
 
     /// The addresses of the added block.
@@ -88,17 +88,22 @@ impl Frame<'_> {
     pub fn code_bytes(&self) -> &[u8]
         ensures { result.now ≡ frame_code self.now }
     {
-        let place = HEAD_LEN + up(field(self.file, INPUT_LEN) as usize);
-        part(self.file, place, field(self.file, CODE_LEN) as usize)
+        part(
+            self.file,
+            code_place(self.file),
+            field(self.file, CODE_LEN) as usize,
+        )
     }
 
     /// The table with the list of counted sites.
     fn table_and_list(&self) -> &[u8]
         ensures { result.now ≡ frame_table self.now }
     {
-        let code_place = HEAD_LEN + up(field(self.file, INPUT_LEN) as usize);
-        let place = code_place + up(field(self.file, CODE_LEN) as usize);
-        part(self.file, place, field(self.file, TABLE_LEN) as usize)
+        part(
+            self.file,
+            table_place(self.file),
+            field(self.file, TABLE_LEN) as usize,
+        )
     }
 
     /// The table without the list of counted sites.

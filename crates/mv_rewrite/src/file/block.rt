@@ -6,23 +6,12 @@ ghost use Rattle.mv_base.specs.Bytes.{words};
 ghost use Rattle.mv_rewrite.specs.File.{added_header as header_of_block, added_headers as headers_of_block, added_len as len_of_block, table_of, table_lo as lo_of_table, private_lo as lo_of_private, list_lo as lo_of_list, code_place as place_of_code, place_words, record_words as words_of_record};
 ghost use Rattle.mv_rewrite.specs.Writing.{EndsLow, record_front};
 
-use crate::file::head::{HEAD_LEN, PT_LOAD, SEGMENT_ALIGN};
+use crate::file::format::{FRAME_MAGIC, FRAME_VERSION, HEAD_LEN, PRIVATE_LEN, TABLE_FORM};
+use crate::file::head::{PT_LOAD, SEGMENT_ALIGN};
 use crate::file::part::{put_words, up};
 use crate::plan::Plan;
 use elf32_read::Phdr;
 use mv_base::{NoMemory, RunPlace};
-
-/// The bytes 4D 56 46 52, with which a frame record begins.
-const FRAME_MAGIC: u32 = 0x5246_564D;
-
-/// The version of the frame record that is written.
-const FRAME_VERSION: u32 = 1;
-
-/// The form of the table that is written.
-const TABLE_FORM: u32 = 1;
-
-/// How many bytes the private area has before its counters.
-const PRIVATE_LEN: u32 = 64;
 
 /// The flags of a segment that can be read and executed, only read, and read and written.
 const READ_EXECUTE: u32 = 5;

@@ -6,6 +6,7 @@ ghost use Rattle.mv_base.specs.Bytes.{words};
 ghost use Rattle.mv_rewrite.specs.File.{header_words as words_of_header, kept_header as kept_of, with_added};
 ghost use Rattle.mv_rewrite.specs.Writing.{header_bytes, is_above as is_above_of};
 
+use crate::file::format::HEAD_LEN;
 use crate::file::part::{put_halves, put_words};
 use elf32_read::{Image, Phdr};
 use mv_base::NoMemory;
@@ -24,9 +25,6 @@ const PF_X: u32 = 1;
 
 /// The flag of a segment that may be read (System V gABI, segment flags).
 const PF_R: u32 = 4;
-
-/// How many bytes stand before the input in the file.
-pub const HEAD_LEN: u32 = 0x1000;
 
 /// How the addresses of a loaded segment are aligned.
 pub const SEGMENT_ALIGN: u32 = 0x1000;

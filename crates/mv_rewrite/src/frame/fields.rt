@@ -1,17 +1,18 @@
 //! The words of a frame record, by their places in it.
 
-ghost use Rattle.std.specs.Prelude.{◌≡◌, ◌+◌, ◌<◌, ◌≤◌, length, take, drop};
+ghost use Rattle.std.specs.Prelude.{◌≡◌, ◌+◌, ◌^◌, ◌<◌, ◌≤◌, length, take, drop};
 ghost use Rattle.mv_base.specs.Bytes.{word_at};
+ghost use Rattle.mv_rewrite.specs.Layout.{up as up_of};
+ghost use Rattle.mv_rewrite.specs.File.{code_place as place_of_code};
 ghost use Rattle.mv_rewrite.specs.Frame.{field as field_of, run_place_at as run_place_of};
 
+use crate::file::format::{HEAD_LEN, RECORD_PLACE};
+use crate::file::part::up;
 use byteorder::{ByteOrder, LittleEndian};
 use mv_base::RunPlace;
 
 /// How many bytes stand before the input in the file.
-pub const HEAD_LEN: usize = 0x1000;
-
-/// Where in the file the record stands.
-const RECORD_PLACE: usize = 0x900;
+pub const HEAD: usize = HEAD_LEN as usize;
 
 /// The words of a record, by number; the lengths are in bytes and the others are addresses or counts.
 pub const MAGIC: usize = 0;
@@ -36,7 +37,7 @@ pub const TABLE_LEN: usize = 9;
 
 pub const PRIVATE_LO: usize = 10;
 
-pub const PRIVATE_LEN: usize = 11;
+pub const PRIVATE_SIZE: usize = 11;
 
 pub const FIRST_COUNTER: usize = 12;
 
@@ -76,6 +77,24 @@ pub fn field(file: &[u8], number: usize) -> u32
     ensures { result ≡ field_of file.now number }
 {
     word(file, RECORD_PLACE + 4 * number)
+}
+
+/// Where in the file the code stands.
+pub fn code_place(file: &[u8]) -> usize
+    requires { 0x1000 ≤ length file.now }
+    ensures value { result ≡ place_of_code (field_of file.now 3) }
+    ensures limit { result ≤ 2 ^ 34 }
+{
+    HEAD + up(field(file, INPUT_LEN) as usize)
+}
+
+/// Where in the file the table stands.
+pub fn table_place(file: &[u8]) -> usize
+    requires { 0x1000 ≤ length file.now }
+    ensures value { result ≡ place_of_code (field_of file.now 3) + up_of (field_of file.now 7) }
+    ensures limit { result ≤ 2 ^ 35 }
+{
+    code_place(file) + up(field(file, CODE_LEN) as usize)
 }
 
 /// The place of a run.

@@ -4,22 +4,14 @@ ghost use Rattle.std.specs.Prelude.{◌≡◌, ◌+◌, ◌≤◌, length, IsTru
 ghost use Rattle.mv_rewrite.specs.Frame.{field as field_of, frame_at, has_record as has_record_of, has_places as has_places_of, has_block as has_block_of, has_runs as has_runs_of, has_size as has_size_of};
 ghost use Rattle.mv_rewrite.specs.Framing.{is_run as is_run_of};
 
+use crate::file::format::{FRAME_MAGIC, FRAME_VERSION, PRIVATE_LEN, TABLE_FORM};
 use crate::file::part::up;
 use crate::frame::fields::{
-    ADDED_LEN, ADDED_LO, CODE_LEN, CODE_LO, COUNTER_COUNT, FIRST_COUNTER, FORM, HEAD_LEN,
-    INPUT_LEN, LIST, MAGIC, PRIVATE_LEN, PRIVATE_LO, RUN_COUNT, TABLE_LEN, TABLE_LO, VERSION,
-    field, run_place,
+    ADDED_LEN, ADDED_LO, CODE_LEN, CODE_LO, COUNTER_COUNT, FIRST_COUNTER, FORM, HEAD, INPUT_LEN,
+    LIST, MAGIC, PRIVATE_LO, PRIVATE_SIZE, RUN_COUNT, TABLE_LEN, TABLE_LO, VERSION, field,
+    run_place, table_place,
 };
 use mv_base::RunPlace;
-
-/// The bytes 4D 56 46 52, with which a frame record begins.
-const FRAME_MAGIC: u32 = 0x5246_564D;
-
-/// The version of the frame record that is read.
-const FRAME_VERSION: u32 = 1;
-
-/// The form of the table that is read.
-const TABLE_FORM: u32 = 1;
 
 /// The most runs that a record has.
 const MOST_RUNS: u32 = 64;
@@ -29,9 +21,6 @@ const MOST_INPUT: u32 = 67_108_864;
 
 /// The most bytes that the runs have together.
 const MOST_CODE: u64 = 4_194_304;
-
-/// How many bytes the private area has before its counters.
-const PRIVATE_SIZE: usize = 64;
 
 /// The end of the addresses that an added block may have.
 const BLOCK_END: usize = 0xB000_0000;
@@ -47,7 +36,7 @@ pub fn has_record(file: &[u8]) -> bool
     ensures runs { IsTrue result → field_of file.now 15 ≤ 64 }
     ensures input { IsTrue result → field_of file.now 3 ≤ 67108864 }
 {
-    if file.len() < HEAD_LEN {
+    if file.len() < HEAD {
         return false;
     }
     if field(file, MAGIC) != FRAME_MAGIC {
@@ -75,6 +64,7 @@ pub fn has_places(file: &[u8]) -> bool
     let code_end = up(field(file, CODE_LEN) as usize);
     let table_end = up(field(file, TABLE_LEN) as usize);
     let list_len = 4 * field(file, COUNTER_COUNT) as usize;
+    let private_end = up(PRIVATE_LEN as usize + 2 * list_len);
     if field(file, CODE_LO) != field(file, ADDED_LO) {
         return false;
     }
@@ -84,10 +74,12 @@ pub fn has_places(file: &[u8]) -> bool
     if field(file, PRIVATE_LO) as usize != field(file, TABLE_LO) as usize + table_end {
         return false;
     }
-    if field(file, PRIVATE_LEN) as usize != PRIVATE_SIZE {
+    if field(file, PRIVATE_SIZE) != PRIVATE_LEN {
         return false;
     }
-    if field(file, FIRST_COUNTER) as usize != field(file, PRIVATE_LO) as usize + PRIVATE_SIZE {
+    if field(file, FIRST_COUNTER) as usize
+        != field(file, PRIVATE_LO) as usize + PRIVATE_LEN as usize
+    {
         return false;
     }
     if list_len > field(file, TABLE_LEN) as usize {
@@ -98,7 +90,7 @@ pub fn has_places(file: &[u8]) -> bool
     {
         return false;
     }
-    field(file, ADDED_LEN) as usize == code_end + table_end + up(PRIVATE_SIZE + 2 * list_len)
+    field(file, ADDED_LEN) as usize == code_end + table_end + private_end
 }
 
 /// Whether the file has the length that follows, and the block begins at a page and ends low enough.
@@ -107,9 +99,7 @@ pub fn has_block(file: &[u8]) -> bool
     requires { 0x1000 ≤ length file.now }
     ensures { result ≡ has_block_of (frame_at file.now) }
 {
-    let code_place = HEAD_LEN + up(field(file, INPUT_LEN) as usize);
-    let table_place = code_place + up(field(file, CODE_LEN) as usize);
-    if file.len() != table_place + up(field(file, TABLE_LEN) as usize) {
+    if file.len() != table_place(file) + up(field(file, TABLE_LEN) as usize) {
         return false;
     }
     if field(file, ADDED_LO) % 4096 != 0 {

@@ -1,5 +1,5 @@
 -- The facts of the steps, put together.
-use Rattle.std.proofs.Common.{◌≡◌, ℕ, List, refl, sym, ◌∙◌, ap}
+use Rattle.std.proofs.Common.{refl, ◌∙◌}
 use Rattle.multiverse_cli.specs.Outside.{stored}
 use Rattle.multiverse_cli.specs.Words.{ToRewrite}
 use Rattle.multiverse_cli.proofs.Writing.{IsLastStep, others-whole, holds-whole, fails-whole, text-whole, passes-on, output-over, simulates-over, rewrites-to}
