@@ -1,7 +1,6 @@
 -- The fields of an ELF file. System V gABI, ELF header and program header, with the sizes of ELF32.
-use Rattle.std.specs.Prelude.{◌≡◌, ℕ, ◌+◌, ◌*◌, ◌/◌, ◌%◌, ◌<◌, ◌&&◌, Bool, true, List, [], ◌∷◌, length, take, drop, map, Option, Some, None, nat_lt, ◌==◌, if◌then◌else◌}
+use Rattle.std.specs.Prelude.{ℕ, ◌+◌, ◌*◌, ◌/◌, ◌%◌, ◌&&◌, Bool, List, take, drop, map, Option, Some, None, nat_lt, ◌==◌, if◌then◌else◌}
 use Rattle.std.specs.List.{range_with_len, filter_map}
-use Rattle.mv_base.specs.Span.{Span}
 use Rattle.mv_base.specs.Bytes.{half_at, word_at}
 use Rattle.elf32_read.specs.declared.image.Phdr.{Phdr}
 use Rattle.elf32_read.specs.declared.image.Segment.{Segment}

@@ -3,3 +3,4 @@ pub mod Faults
 pub mod Load
 pub mod Runs
 pub mod Reading
+pub mod Thin

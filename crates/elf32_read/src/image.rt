@@ -1,6 +1,6 @@
 //! An image: what of a file is loaded, and where.
 
-ghost use Rattle.std.specs.Prelude.{◌≡◌, length};
+ghost use Rattle.std.specs.Prelude.{◌≡◌, ◌↔◌, IsTrue, [], length};
 
 use mv_base::Range;
 use std::marker::Model;
@@ -43,6 +43,36 @@ impl Model for Headers {
     ghost view = { λ h. h.items.items };
 }
 
+impl Headers {
+    /// The program headers of a vector.
+    pub fn new(items: Vec<Phdr>) -> Headers
+        ensures { result ≡ items.items }
+    {
+        Headers { items }
+    }
+
+    /// The program headers as a slice.
+    pub fn as_slice(&self) -> &[Phdr]
+        ensures { result.now ≡ self.now }
+    {
+        self.items.as_slice()
+    }
+
+    /// How many program headers there are.
+    pub fn len(&self) -> usize
+        ensures { result ≡ length self.now }
+    {
+        self.items.len()
+    }
+
+    /// Whether there is no program header.
+    pub fn is_empty(&self) -> bool
+        ensures { IsTrue result ↔ (self.now ≡ []) }
+    {
+        self.items.is_empty()
+    }
+}
+
 /// The segments of an image, in file order.
 #[derive(Drop)]
 pub struct Segments {
@@ -56,6 +86,36 @@ impl Model for Segments {
     ghost Value = { List Segment };
 
     ghost view = { λ s. s.items.items };
+}
+
+impl Segments {
+    /// The segments of a vector.
+    pub fn new(items: Vec<Segment>) -> Segments
+        ensures { result ≡ items.items }
+    {
+        Segments { items }
+    }
+
+    /// The segments as a slice.
+    pub fn as_slice(&self) -> &[Segment]
+        ensures { result.now ≡ self.now }
+    {
+        self.items.as_slice()
+    }
+
+    /// How many segments there are.
+    pub fn len(&self) -> usize
+        ensures { result ≡ length self.now }
+    {
+        self.items.len()
+    }
+
+    /// Whether there is no segment.
+    pub fn is_empty(&self) -> bool
+        ensures { IsTrue result ↔ (self.now ≡ []) }
+    {
+        self.items.is_empty()
+    }
 }
 
 /// What of a file is loaded: where it starts, the flags and bytes 7 to 15 of its head, its program headers

@@ -1,9 +1,8 @@
 -- From when an answer comes, to which one has to come.
-use Rattle.std.proofs.Common.{◌≡◌, ◌≢◌, ◌<◌, ◌≤◌, length, ℕ, Bool, true, false, List, Option, Some, None, IsSomeAnd, IsTrue, sym, ◌∙◌, refl, subst, inl, inr, arith}
+use Rattle.std.proofs.Common.{◌≡◌, ◌≢◌, ℕ, true, false, List, Option, Some, None, IsSomeAnd, IsTrue, sym, ◌∙◌, refl, subst, inl, inr, arith}
 use Rattle.mv_base.specs.declared.status.Status.{Status}
 use Rattle.mv_base.specs.declared.status.Status.TheVariants.{Done, Usage, ReadFault, WriteFault, BadImage, NoRoom, BadLog, NoMemory, SinkFault, TooLarge}
-use Rattle.elf32_read.specs.Faults.{is_thin}
-use Rattle.multiverse_cli.specs.Answers.{size_limit, IsOversized, IsFaulty, IsRewritable, Comes, ComesAt, ComesWithout, FirstDue, IsDue, IsUnlessMemory, input_of, output_of}
+use Rattle.multiverse_cli.specs.Answers.{IsOversized, IsFaulty, IsRewritable, Comes, ComesAt, ComesWithout, FirstDue, IsUnlessMemory, input_of, output_of}
 use Rattle.multiverse_cli.specs.Outside.{Stored, Printed, IsReadFault, IsWriteFault, IsSinkFault}
 use Rattle.multiverse_cli.specs.Words.{Asked}
 

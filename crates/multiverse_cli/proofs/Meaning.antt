@@ -1,18 +1,17 @@
 -- From what was tried and what was reported, to what the answer means.
-use Rattle.std.proofs.Common.{◌≡◌, ℕ, ◌⊎◌, List, [], Option, Some, None, Result, Ok, Err, IsSomeAnd, IsTrue, Vec, Global, sym, ◌∙◌, ap, subst, inl, inr, append-nil}
+use Rattle.std.proofs.Common.{◌≡◌, ℕ, ◌⊎◌, List, [], Option, Some, None, Result, Ok, Err, IsSomeAnd, Vec, Global, sym, ◌∙◌, ap, subst, inl, inr, append-nil}
 use Rattle.mv_base.specs.Holding.{KeepsOrBegins}
 use Rattle.mv_base.specs.declared.status.Status.{Status}
 use Rattle.mv_base.specs.declared.status.Status.TheVariants.{Done, Usage, ReadFault, WriteFault, BadImage, NoRoom, BadLog, NoMemory, SinkFault, TooLarge}
 use Rattle.elf32_read.specs.declared.fault.ImageFault.{ImageFault}
-use Rattle.elf32_read.specs.declared.fault.ImageFault.TheVariants.{NotYet}
 use Rattle.multiverse_cli.specs.declared.failure.Failure.{Failure}
 use Rattle.multiverse_cli.specs.declared.failure.Failure.TheVariants as failure
 use Rattle.multiverse_cli.specs.declared.refusal.Refusal.{Refusal}
 use Rattle.multiverse_cli.specs.declared.refusal.Refusal.TheVariants as refusal
-use Rattle.multiverse_cli.specs.Answers.{IsRewritable, InputIs, input_of, output_of, WritesOutput, BeginsOutput, IsInput, text_of, Comes, ComesAt, ComesWithout, Leaves, LeavesAt, Prints, PrintsAt, PrintsWithout, IsCutOff, OfMemory, OfRead, OfSize, OfImage, OfWrite, OfDone, Delivers, Delivered}
-use Rattle.multiverse_cli.specs.Outside.{Stored, Printed, Held, KeepsAll, Says, SaysAll, SaysPart}
-use Rattle.multiverse_cli.specs.Steps.{Attempts, Carries, CarriesNothing, IsCarriedOut, IsRefused, IsStarved, PrintsText, PrintsRefusal, Refuses, Reports}
-use Rattle.multiverse_cli.specs.Texts.{status_of, message_of, memory_message, read_message, size_message, image_message, write_message, usage_message}
+use Rattle.multiverse_cli.specs.Answers.{IsRewritable, InputIs, input_of, output_of, WritesOutput, BeginsOutput, IsInput, text_of, Comes, ComesAt, ComesWithout, Leaves, LeavesAt, Prints, PrintsAt, PrintsWithout, IsCutOff, OfMemory, OfRead, OfSize, OfImage, OfWrite, OfDone, Delivers}
+use Rattle.multiverse_cli.specs.Outside.{Stored, Printed, Held, Says, SaysPart}
+use Rattle.multiverse_cli.specs.Steps.{Attempts, IsCarriedOut, PrintsText, PrintsRefusal, Refuses, Reports}
+use Rattle.multiverse_cli.specs.Texts.{status_of, message_of, memory_message, read_message, size_message, image_message, write_message}
 use Rattle.multiverse_cli.specs.Words.{Asked}
 
 -- what is known of the bytes that the input held is known of the input

@@ -1,10 +1,11 @@
 -- From what a write of the output did, to what the command did.
-use Rattle.std.proofs.Common.{◌≡◌, ℕ, ◌≤◌, length, List, Option, Some, Result, Ok, Err, IsErrAnd, IsTrue, Vec, Global, sym, ◌∙◌, ap, subst, inl, inr}
+use Rattle.std.proofs.Common.{◌≡◌, ℕ, ◌≤◌, length, List, Option, Some, Result, Ok, Err, IsErrAnd, Vec, Global, sym, ◌∙◌, ap, subst, inr}
 use Rattle.std.specs.Prelude.{unwrap_or}
 use Rattle.mv_base.specs.Holding.{KeepsOrBegins}
 use Rattle.mv_base.specs.Faults.{Rose}
 use Rattle.mv_rewrite.specs.Layout.{base_of}
 use Rattle.mv_rewrite.specs.Rewriting.{IsOutput}
+use Rattle.mv_rewrite.specs.Stopping.{Simulates}
 use Rattle.mv_rewrite.specs.declared.rewriting.Rewritten.{Rewritten}
 use Rattle.multiverse_cli.specs.declared.failure.Failure.{Failure}
 use Rattle.multiverse_cli.specs.declared.failure.Failure.TheVariants as failure
@@ -95,10 +96,21 @@ passes-on (Err e) f a s is h =
 pub output-over : (b b' : List ℕ) (r : Rewritten) → b' ≡ b → IsOutput b' r → IsOutput b r
 output-over b b' r e is = let P : List ℕ → Type 0 = λ l. IsOutput l r in subst P e is
 
+-- and so is that the output simulates its input
+pub simulates-over : (b b' x : List ℕ) → b' ≡ b → Simulates b' x → Simulates b x
+simulates-over b b' x e follows = let P : List ℕ → Type 0 = λ l. Simulates l x in subst P e follows
+
 -- a file that is rewritten to equal bytes
-pub rewrites-to : (b x : List ℕ) (r : Rewritten) → length b ≤ size_limit → x ≡ r.bytes.items → IsOutput b r → Rewrites b x
-rewrites-to b x r fits e is =
-    record { rewritable = record { fits = fits; sound = is.thin }; output_is = is.bytes ∙ ap Some (sym e) }
+pub rewrites-to :
+    (b x : List ℕ) (r : Rewritten) → length b ≤ size_limit → x ≡ r.bytes.items → IsOutput b r
+    → Simulates b r.bytes.items → Rewrites b x
+rewrites-to b x r fits e is simulates =
+    let P : List ℕ → Type 0 = λ l. Simulates b l in
+    record {
+      rewritable = record { fits = fits; sound = is.thin };
+      output_is = is.bytes ∙ ap Some (sym e);
+      simulates = subst P (sym e) simulates;
+    }
 
 -- what the last step made a name hold, the whole call made it hold
 pub holds-whole :

@@ -8,6 +8,7 @@ use Rattle.elf32_read.specs.Faults.{is_thin}
 use Rattle.mv_rewrite.specs.Sites.{sites}
 use Rattle.mv_rewrite.specs.Layout.{base_of, size}
 use Rattle.mv_rewrite.specs.Output.{output}
+use Rattle.mv_rewrite.specs.Stopping.{Simulates}
 use Rattle.multiverse_cli.specs.Outside.{Stored, Printed, IsReadFault, IsWriteFault, IsSinkFault, KeepsAll, KeepsOthers, Held, Holds, SaysAll, SaysPart, Says}
 use Rattle.multiverse_cli.specs.Texts.{rewritten_text, usage_message, read_message, size_message, image_message, write_message, memory_message}
 use Rattle.multiverse_cli.specs.Words.{Asked, ToRewrite}
@@ -32,10 +33,13 @@ pub record IsRewritable (b : List ℕ) : Type 0 where
   pub fits : length b ≤ size_limit
   pub sound : is_thin b ≡ true
 
--- a file that is rewritten, and its one output
+-- a file that is rewritten, and its one output, which simulates it: while the file completes steps that are clear of
+-- the added addresses and of changes to its code, the output passes in order through a state that agrees after each
+-- one, shows nothing in between, and stops where the file stops, for the same cause
 pub record Rewrites (b x : List ℕ) : Type 0 where
   pub rewritable : IsRewritable b
   pub output_is : output b ≡ Some x
+  pub simulates : Simulates b x
 
 -- what is printed of a file that is rewritten: the number of its sites, the added addresses, and no counter
 abbrev pub text_of : List ℕ → List ℕ

@@ -9,7 +9,7 @@ use Rattle.multiverse_cli.specs.declared.refusal.Refusal.{Refusal}
 use Rattle.multiverse_cli.specs.declared.refusal.Refusal.TheVariants as refusal
 use Rattle.multiverse_cli.specs.declared.failure.Failure.{Failure}
 use Rattle.multiverse_cli.specs.declared.failure.Failure.TheVariants as failure
-use Rattle.multiverse_cli.specs.Outside.{Stored, Printed, IsReadFault, IsWriteFault, IsSinkFault, KeepsAll, KeepsOthers, Held, Holds, SaysAll, SaysPart, Says}
+use Rattle.multiverse_cli.specs.Outside.{Stored, Printed, IsReadFault, IsWriteFault, IsSinkFault, KeepsAll, Held, Holds, SaysAll, SaysPart, Says}
 use Rattle.multiverse_cli.specs.Words.{Asked}
 use Rattle.multiverse_cli.specs.Texts.{message_of, memory_message, status_of}
 use Rattle.multiverse_cli.specs.Answers.{size_limit, IsOversized, IsFaulty, InputIs, input_of, output_of, WritesOutput, BeginsOutput, text_of}

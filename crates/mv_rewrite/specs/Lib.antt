@@ -1,10 +1,18 @@
 -- the definitions that this crate's contracts, and those of the crates above, cite
+pub mod Decoding
 pub mod Sites
 pub mod Pieces
+pub mod Laying
 pub mod Layout
+pub mod Lookup
+pub mod Room
+pub mod Slots
 pub mod File
+pub mod Writing
 pub mod Output
 pub mod Frame
+pub mod Framing
 pub mod Relocated
 pub mod Simulation
+pub mod Stopping
 pub mod Rewriting

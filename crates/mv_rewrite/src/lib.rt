@@ -5,9 +5,19 @@
 //! the project grows.
 #![tactic(auto)]
 
+mod decoding;
+mod entries;
+mod file;
+mod frame;
+mod layout;
+mod pieces;
 pub mod plan;
 pub mod rewriting;
+mod room;
 pub mod site;
+mod sites;
+mod slots;
+mod table;
 
 pub use plan::{Plan, RunPlaces};
 pub use rewriting::{FILE_LIMIT, RewriteFault, Rewritten, rewrite};

@@ -1,5 +1,7 @@
 //! What an output adds to its input.
 
+ghost use Rattle.std.specs.Prelude.{◌≡◌, ◌↔◌, IsTrue, [], length};
+
 use mv_base::{Addrs, Bytes, RunPlace};
 use std::marker::Model;
 
@@ -16,6 +18,36 @@ impl Model for RunPlaces {
     ghost Value = { List RunPlace };
 
     ghost view = { λ r. r.items.items };
+}
+
+impl RunPlaces {
+    /// The places of a vector.
+    pub fn new(items: Vec<RunPlace>) -> RunPlaces
+        ensures { result ≡ items.items }
+    {
+        RunPlaces { items }
+    }
+
+    /// The places as a slice.
+    pub fn as_slice(&self) -> &[RunPlace]
+        ensures { result.now ≡ self.now }
+    {
+        self.items.as_slice()
+    }
+
+    /// How many places there are.
+    pub fn len(&self) -> usize
+        ensures { result ≡ length self.now }
+    {
+        self.items.len()
+    }
+
+    /// Whether there is no place.
+    pub fn is_empty(&self) -> bool
+        ensures { IsTrue result ↔ (self.now ≡ []) }
+    {
+        self.items.is_empty()
+    }
 }
 
 /// The added block: where it starts, its code, its table without the list of counted sites, that list, the

@@ -1,10 +1,18 @@
 //! Rewriting a whole file.
 
-ghost use Rattle.std.specs.Prelude.{◌≤◌, length};
-ghost use Rattle.mv_rewrite.specs.Rewriting.{IsRewritten};
+ghost use Rattle.std.specs.Prelude.{◌≡◌, ◌≤◌, length, IfOk};
+ghost use Rattle.elf32_read.specs.Reading.{IsImage};
+ghost use Rattle.mv_rewrite.specs.Laying.{IsLaid};
+ghost use Rattle.mv_rewrite.specs.Layout.{size};
+ghost use Rattle.mv_rewrite.specs.Rewriting.{IsOutput, IsRewritten};
+ghost use Rattle.mv_rewrite.specs.Stopping.{Simulates};
 
-use elf32_read::ImageFault;
-use mv_base::Range;
+use crate::file::{added_len, write_image};
+use crate::layout::lay;
+use crate::plan::Plan;
+use crate::sites::sites;
+use elf32_read::{Image, ImageFault, ReadImage, read_image, runs};
+use mv_base::{NoMemory, Range};
 use std::alloc::Global;
 
 /// How many bytes a file that is read may have: 64 MiB.
@@ -25,11 +33,58 @@ pub enum RewriteFault {
     NoMemory,
 }
 
+impl From<NoMemory> for RewriteFault {
+    ghost use Rattle.std.specs.Prelude.{◌≡◌};
+    ghost use Rattle.mv_rewrite.specs.declared.rewriting.RewriteFault.TheVariants as fault;
+
+    ghost from_gives = { λ _ e. e ≡ fault.NoMemory };
+
+    fn from(_error: NoMemory) -> RewriteFault {
+        RewriteFault::NoMemory
+    }
+}
+
 /// The output of a static executable: its code relocated, a table from old to new addresses, and the input
-/// whole, no longer executable.
-pub fn rewrite(_alloc: Global, _bytes: &[u8]) -> Result<Rewritten, RewriteFault>
-    requires { length _bytes.now ≤ FILE_LIMIT }
-    ensures { IsRewritten _bytes.now result }
+/// whole, no longer executable. It follows the input's runs, shows nothing else on the way, and stops where
+/// they stop.
+///
+/// # Errors
+///
+/// `Image` with the file's first fault; `NoMemory` where memory is wanted.
+pub fn rewrite(alloc: Global, bytes: &[u8]) -> Result<Rewritten, RewriteFault>
+    requires { length bytes.now ≤ FILE_LIMIT }
+    ensures rewritten { IsRewritten bytes.now result }
+    ensures simulates { IfOk result (λ r. Simulates bytes.now r.bytes.items) }
 {
-    Err(RewriteFault::NoMemory)
+    match read_image(alloc, bytes) {
+        Ok(image) => Ok(rewrite_image(alloc, &image, bytes)?),
+        Err(ReadImage::Bad(fault)) => Err(RewriteFault::Image(fault)),
+        Err(ReadImage::NoMemory) => Err(RewriteFault::NoMemory),
+    }
+}
+
+/// The output of a file whose image this is.
+fn rewrite_image(alloc: Global, image: &Image, bytes: &[u8]) -> Result<Rewritten, NoMemory>
+    requires image { IsImage bytes.now image.now }
+    requires limit { length bytes.now ≤ FILE_LIMIT }
+    ensures { IfOk result (λ r. IsOutput bytes.now r) }
+{
+    let runs = runs(alloc, image, bytes)?;
+    let sites = sites(alloc, &runs)?;
+    let plan = lay(alloc, image, bytes, &runs, &sites)?;
+    let file = write_image(alloc, image, bytes, &plan)?;
+    Ok(Rewritten {
+        bytes: file,
+        sites: sites.len() as u32,
+        added: added(bytes, &plan),
+        counters: 0,
+    })
+}
+
+/// The addresses that the plan of a file adds.
+fn added(_bytes: &[u8], plan: &Plan) -> Range
+    requires { IsLaid _bytes.now plan.now }
+    ensures { result ≡ record { lo = plan.now.base; len = size _bytes.now } }
+{
+    Range::new(plan.base, added_len(plan))
 }

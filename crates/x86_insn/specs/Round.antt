@@ -1,13 +1,13 @@
 -- What an instruction asks of memory, and what it does to registers and flags. Intel SDM, volume 2.
 -- An instruction is told apart from memory: it asks for reads, and ends with new registers and flags and at most one
 -- write, or stops. So it reaches memory in no other way, and the instruction pointer is not told to it.
-use Rattle.std.specs.Prelude.{ℕ, ◌+◌, ◌%◌, ◌^◌, Bool, true, false, List, [], ◌∷◌, Option, Some, None, slice_index, slice_set}
+use Rattle.std.specs.Prelude.{ℕ, ◌+◌, ◌%◌, ◌^◌, Bool, false, List, Option, None, slice_set}
 use Rattle.x86_insn.specs.declared.insn.Insn.{Insn}
 use Rattle.x86_insn.specs.declared.insn.Insn.TheVariants as insn
-use Rattle.x86_insn.specs.declared.insn.Width.TheVariants.{B, W, D}
+use Rattle.x86_insn.specs.declared.insn.Width.TheVariants.{D}
 use Rattle.x86_insn.specs.declared.insn.Rm.TheVariants as rm
 use Rattle.x86_insn.specs.declared.insn.Src.TheVariants as src
-use Rattle.x86_insn.specs.State.{Core, Kind, Stop, Trap, Outside, Protection, reg_number}
+use Rattle.x86_insn.specs.State.{Core, Stop, Trap, Outside, Protection, reg_number}
 
 -- an ask: the bytes at a place, a stop, or the end with a new core, at most one write of bytes at a place, and what is
 -- said besides (E)

@@ -1,7 +1,7 @@
 -- The states that a machine comes to.
-use Rattle.std.specs.Prelude.{◌≡◌, ℕ, zero, suc, Option, Some, None}
+use Rattle.std.specs.Prelude.{ℕ, zero, suc, Option, Some, None}
 use Rattle.std.specs.Option.{option_and_then}
-use Rattle.x86_insn.specs.State.{State, Outcome, Next, Stopped, Stop}
+use Rattle.x86_insn.specs.State.{State, Outcome, Next, Stopped}
 use Rattle.x86_insn.specs.Step.{step}
 
 abbrev pub next_of : Outcome → Option State

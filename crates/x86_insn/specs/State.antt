@@ -1,8 +1,7 @@
 -- The state of the user machine. Intel SDM, volume 1, chapter 3; the answers and calls are this project's own.
-use Rattle.std.specs.Prelude.{◌≡◌, ℕ, zero, suc, ◌^◌, ◌<◌, List, [], ◌∷◌, length, Option, slice_index}
-use Rattle.std.specs.List.{AllByRecursion}
-use Rattle.mv_base.specs.Memory.{Memory, IsMemory}
-use Rattle.mv_base.specs.Effects.{Answer, IsAnswer}
+use Rattle.std.specs.Prelude.{◌≡◌, ℕ, ◌^◌, ◌<◌, List, length, slice_index}
+use Rattle.mv_base.specs.Memory.{Memory}
+use Rattle.mv_base.specs.Effects.{Answer}
 use Rattle.x86_insn.specs.declared.flags.Flags.{Flags}
 use Rattle.x86_insn.specs.declared.insn.Reg.{Reg}
 use Rattle.x86_insn.specs.declared.insn.Reg.TheVariants.{Eax, Ecx, Edx, Ebx, Esp, Ebp, Esi, Edi}

@@ -1,6 +1,6 @@
 -- One step of the user machine: one whole instruction. Intel SDM, volume 2; stops and answers are this project's own.
-use Rattle.std.specs.Prelude.{◌≡◌, ℕ, zero, suc, ◌+◌, ◌%◌, ◌^◌, Bool, true, false, List, [], ◌∷◌, ◌++◌, length, Option, Some, None, slice_index, slice_set}
-use Rattle.mv_base.specs.Memory.{Memory, read_fault, write_fault, bytes_at, put, is_executable, exec_byte, exec_bytes, address_after}
+use Rattle.std.specs.Prelude.{ℕ, zero, suc, Bool, true, false, List, [], ◌∷◌, ◌++◌, length, Option, Some, None, slice_index, slice_set}
+use Rattle.mv_base.specs.Memory.{Memory, read_fault, write_fault, bytes_at, put, exec_byte, exec_bytes, address_after}
 use Rattle.mv_base.specs.Effects.{Effect, Answer, Ret, Refusal, Executable, NotMapped, NotWritable, Applied, AllApplied, RefusedAt, apply_all}
 use Rattle.mv_base.specs.Effects as effects
 use Rattle.x86_insn.specs.declared.insn.Insn.{Insn}

@@ -9,6 +9,6 @@ pub mod insn;
 
 pub use flags::Flags;
 pub use insn::{
-    AluOp, BitOp, Cond, Count, FlagOp, Flow, Insn, LoopKind, Mem, Reg, Rep, Rm, ShiftOp, Src, StrOp,
-    UnOp, Width,
+    AluOp, BitOp, Cond, Count, FlagOp, Flow, Insn, LoopKind, Mem, Reg, Rep, Rm, ShiftOp, Src,
+    StrOp, UnOp, Width,
 };

@@ -1,0 +1,2 @@
+-- lemmas of this crate's proofs
+pub mod Flags

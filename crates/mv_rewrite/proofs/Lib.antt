@@ -1,0 +1,43 @@
+-- why the code gives what the definitions say
+pub mod PairWalk
+pub mod Fit
+pub mod Fronts
+pub mod RunOrder
+pub mod RunSites
+pub mod SiteList
+pub mod SlotSteps
+pub mod Spellings
+pub mod TableWords
+pub mod ThinLayout
+-- what stands where in an output, and how it loads, lowest first
+pub mod EntryWords
+pub mod SlotPlaces
+pub mod HeadBytes
+pub mod RecordRuns
+pub mod Placed
+pub mod Parts
+pub mod Written
+pub mod Fine
+pub mod NewHeaders
+pub mod NewCells
+pub mod Planned
+pub mod Recorded
+pub mod Relocating
+-- why the run of a relocated output follows the run of its input, lowest first
+pub mod DecodedAlike
+pub mod NearJump
+pub mod Cells
+pub mod Bounded
+pub mod Likeness
+pub mod EffectsAlike
+pub mod Copied
+pub mod StepTable
+pub mod Standing
+pub mod Sound
+pub mod AtSite
+pub mod OneStep
+pub mod Stops
+pub mod Paces
+pub mod Simulating
+pub mod Outputs
+pub mod Assembled

@@ -1,0 +1,314 @@
+-- The plan of any image: its block, and the file that it gives.
+use Rattle.std.proofs.Common.{lit<, ◌≡◌, ℕ, zero, suc, ◌+◌, ◌*◌, ◌/◌, ◌%◌, ◌^◌, ◌<◌, ◌≤◌, Bool, true, false, not, cond, eqb, leb, ltb, ◌&&◌, List, [], ◌∷◌, ◌++◌, length, drop, map, Option, Some, None, refl, sym, ap, ◌∙◌, subst, inl, inr, arith}
+use Rattle.std.specs.List.{list_any, list_all, filter_map, cons_option, sum_by, range_with_len, AllByRecursion}
+use Rattle.std.specs.Option.{option_map}
+use Rattle.std.proofs.lemmas.List.{length-append, length-map, get_or-drop}
+use Rattle.std.proofs.lemmas.List.FromFn.{length-range_with_len}
+use Rattle.std.proofs.lemmas.List.Sums.{sum_by-cons}
+use Rattle.std.proofs.lemmas.Bool.{true≢false, cases_Bool, leb-true, ltb-false, and_parts, or_cases, or_left, or_right, cond_both}
+use Rattle.std.proofs.lemmas.Option.{none-some, same_Some}
+use Rattle.byteorder.specs.Numbers.{little_from-lt}
+use Rattle.mv_base.specs.Bytes.{AreBytes, word_at, words}
+use Rattle.mv_base.specs.declared.range.RunPlace.{RunPlace}
+use Rattle.elf32_read.specs.declared.image.Phdr.{Phdr}
+use Rattle.elf32_read.specs.declared.image.Segment.{Segment}
+use Rattle.elf32_read.specs.declared.run.Run.{Run}
+use Rattle.elf32_read.specs.Fields.{header_at, header_offset, header_count, headers, entry_at, is_load, maps, has_write, has_exec, segment_of, segments}
+use Rattle.elf32_read.specs.Faults.{or_else, fault_if, head_fault, headers_fault, load_refusal}
+use Rattle.elf32_read.specs.declared.fault.ImageFault.TheVariants.{ShortHeader, NoLoad}
+use Rattle.elf32_read.specs.Runs.{runs_of, code_of}
+use Rattle.elf32_read.specs.Runs as runs
+use Rattle.mv_rewrite.specs.Sites.{code_in, addresses, run_addresses, sites, sites_in}
+use Rattle.mv_rewrite.specs.Layout.{up, moved, entry_in, is_apart, has_room, lowest, first_fit, base_of, size, code_len, table_len, pairs_at, run_places, table, plan_at}
+use Rattle.mv_rewrite.specs.File.{head_len, code_place, table_of, kept_header, added_header, with_added, new_headers, file_of}
+use Rattle.mv_rewrite.proofs.EntryWords.{length-words}
+use Rattle.mv_rewrite.proofs.SlotPlaces.{length-slots, entry_in-le}
+use Rattle.mv_rewrite.proofs.Parts.{IsHeader}
+use Rattle.mv_rewrite.proofs.Written.{IsWritable, IsWritten, written}
+use Rattle.mv_rewrite.proofs.Fine.{passed, neither}
+use Rattle.mv_rewrite.proofs.NewHeaders.{Block, IsBlock, block_size, code_of_block, table_of_block, private_of_block, block_headers, AreApart, fine_output}
+
+-- ---- the lowest number that passes
+
+pub lowest_passes : (test : ℕ → Bool) (n from q : ℕ) → lowest test from n ≡ Some q → (test q ≡ true) × (from ≤ q)
+unfolding lowest
+lowest_passes test zero from q e = absurd (none-some q e)
+lowest_passes test (suc n) from q e =
+    elim (cases_Bool (test from)) [
+      | inl passed ↦
+          let same : from ≡ q = same_Some from q (sym (ap (λ t. cond t (Some from) (lowest test (from + 1) n)) passed) ∙ e) in
+          (subst (λ k. test k ≡ true) same passed, omega (arith, same))
+      | inr fails ↦
+          let later = lowest_passes test n (from + 1) q (sym (ap (λ t. cond t (Some from) (lowest test (from + 1) n)) fails) ∙ e) in
+          (later.0, omega (arith, later.1))
+    ]
+
+-- ---- lengths of the plan
+
+module _ (b : List ℕ) (base : ℕ) where
+  pub length-code : length (plan_at b base).code ≡ code_len b
+  unfolding plan_at sites sites_in
+  length-code = length-slots (moved (pairs_at b base)) (code_in b) (addresses (runs_of b)) base
+
+  pub length-table : length (plan_at b base).table ≡ table_len b
+  unfolding plan_at table
+  length-table =
+      omega (arith, length-words (map (entry_in (pairs_at b base)) (addresses (runs_of b))), length-map (addresses (runs_of b)) (entry_in (pairs_at b base)))
+
+  pub length-counted : length (plan_at b base).counted ≡ 0
+  unfolding plan_at
+  length-counted = refl
+
+  pub length-table_of : length (table_of (plan_at b base)) ≡ table_len b
+  length-table_of =
+      omega (arith, length-table, length-counted, length-append (plan_at b base).table (words (plan_at b base).counted), length-words (plan_at b base).counted)
+
+  pub size_is : size b ≡ up (code_len b) + up (table_len b) + 4096
+  unfolding size
+  size_is = refl
+
+  pub plan_runs : (plan_at b base).runs ≡ run_places (base + up (code_len b)) (runs_of b)
+  unfolding plan_at
+  plan_runs = refl
+
+pub length-run_places : (dir : ℕ) (rs : List Run) → length (run_places dir rs) ≡ length rs
+unfolding run_places
+length-run_places dir [] = refl
+length-run_places dir (r ∷ rs) = omega (arith, length-run_places (dir + 4 * length r.bytes) rs)
+
+abbrev pub run_len : Run → ℕ
+run_len r = length r.bytes
+
+pub length-addresses : (rs : List Run) → length (addresses rs) ≡ sum_by run_len rs
+unfolding addresses
+length-addresses [] = refl
+length-addresses (r ∷ rs) =
+    let len : length (range_with_len r.lo (length r.bytes)) ≡ run_len r = length-range_with_len r.lo (length r.bytes) in
+    let more : sum_by run_len (r ∷ rs) ≡ run_len r + sum_by run_len rs = sum_by-cons run_len r rs in
+    omega (arith, len, more, length-addresses rs, length-append (run_addresses r) (addresses rs))
+
+-- ---- what is asked of an image
+
+-- a file that is rewritten with its block at this base: it has no fault, and its runs have its executable bytes
+pub record IsInput (b : List ℕ) (base : ℕ) : Type 0 where
+  pub bytes : AreBytes b
+  pub small : length b ≤ 67108864
+  pub loads : load_refusal b ≡ None
+  pub few_headers : header_count b ≤ 61
+  pub base_is : base_of b ≡ Some base
+  pub code : (a : ℕ) → code_in b a ≡ code_of (runs_of b) a
+  pub runs_apart : runs.AreApart 0 (runs_of b)
+  pub few_runs : length (runs_of b) ≤ 64
+  pub few_bytes : sum_by run_len (runs_of b) ≤ 4194304
+
+-- the block's page and room, and each segment apart from it
+pub record HasRoom (ss : List Segment) (size base : ℕ) : Type 0 where
+  pub page : ℕ
+  pub at : base ≡ 4096 * page
+  pub from : 0x100 ≤ page
+  pub low : base + size ≤ 0xB0000000
+  pub apart : list_all (is_apart page (page + size / 4096)) ss ≡ true
+
+abbrev page_base : ℕ → ℕ
+page_base page = 4096 * page
+
+base_by : (o : Option ℕ) (base : ℕ) → option_map page_base o ≡ Some base → (page : ℕ) × (o ≡ Some page) × (base ≡ 4096 * page)
+base_by None base e = absurd (none-some base e)
+base_by (Some page) base e = (page, refl, sym (same_Some (page_base page) base e))
+
+pub has_room_at : (b : List ℕ) (base : ℕ) → base_of b ≡ Some base → HasRoom (segments b) (size b) base
+unfolding base_of first_fit has_room
+has_room_at b base e =
+    let test = has_room (segments b) (size b) in
+    let p = base_by (lowest test 0x100 0xAFF00) base e in
+    let found = lowest_passes test 0xAFF00 0x100 p.0 p.1 in
+    let room = and_parts (leb (4096 * p.0 + size b) 0xB0000000) (list_all (is_apart p.0 (p.0 + size b / 4096)) (segments b)) found.0 in
+    record { page = p.0; at = p.2; from = found.1; low = omega (arith, p.2, leb-true (4096 * p.0 + size b) 0xB0000000 room.0); apart = room.1 }
+
+pub word_at-lt : (b : List ℕ) (p : ℕ) → AreBytes b → word_at b p < 2 ^ 32
+unfolding word_at
+word_at-lt b p bytes = little_from-lt 0 4 (drop p b) (λ k. subst (λ n. n < 256) (sym (get_or-drop p b k 0)) (bytes (p + k)))
+
+header_fits : (b : List ℕ) (p : ℕ) → AreBytes b → IsHeader (header_at b p)
+unfolding header_at
+header_fits b p bytes = record {
+  kind = word_at-lt b p bytes;
+  offset = word_at-lt b (p + 4) bytes;
+  vaddr = word_at-lt b (p + 8) bytes;
+  paddr = word_at-lt b (p + 12) bytes;
+  filesz = word_at-lt b (p + 16) bytes;
+  memsz = word_at-lt b (p + 20) bytes;
+  flags = word_at-lt b (p + 24) bytes;
+  align = word_at-lt b (p + 28) bytes;
+}
+
+mapped_fit : (b : List ℕ) (p j n : ℕ) → AreBytes b → AllByRecursion IsHeader (map (λ i. header_at b (p + 32 * i)) (range_with_len j n))
+mapped_fit b p j zero bytes = tt
+mapped_fit b p j (suc n) bytes = (header_fits b (p + 32 * j) bytes, mapped_fit b p (j + 1) n bytes)
+
+headers_fit : (b : List ℕ) → AreBytes b → AllByRecursion IsHeader (headers b)
+unfolding headers
+headers_fit b bytes = mapped_fit b (header_offset b) 0 (header_count b) bytes
+
+pub length-headers : (b : List ℕ) → length (headers b) ≡ header_count b
+unfolding headers
+length-headers b = omega (arith, length-map (range_with_len 0 (header_count b)) (λ i. header_at b (header_offset b + 32 * i)), length-range_with_len 0 (header_count b))
+
+kept_fits : (h : Phdr) → IsHeader h → IsHeader (kept_header h)
+kept_fits h is = by (is_load h)
+  where
+    by : (t : Bool) → IsHeader (cond t (record h { offset = (h.offset + head_len) % 2 ^ 32; flags = h.flags / 8 * 8 + 4 + h.flags / 2 % 2 * 2; align = 0x1000 }) (record h { offset = (h.offset + head_len) % 2 ^ 32 }))
+    by true = record { kind = is.kind; offset = omega arith; vaddr = is.vaddr; paddr = is.paddr; filesz = is.filesz; memsz = is.memsz; flags = omega (arith, is.flags); align = lit< tt }
+    by false = record { kind = is.kind; offset = omega arith; vaddr = is.vaddr; paddr = is.paddr; filesz = is.filesz; memsz = is.memsz; flags = is.flags; align = is.align }
+
+kept_all_fit : (hs : List Phdr) → AllByRecursion IsHeader hs → AllByRecursion IsHeader (map kept_header hs)
+kept_all_fit [] are = tt
+kept_all_fit (h ∷ hs) are = (kept_fits h are.0, kept_all_fit hs are.1)
+
+three_and : (g1 g2 g3 : Phdr) (hs : List Phdr) → IsHeader g1 → IsHeader g2 → IsHeader g3 → AllByRecursion IsHeader hs → AllByRecursion IsHeader ((g1 ∷ g2 ∷ g3 ∷ []) ++ hs)
+three_and g1 g2 g3 hs e1 e2 e3 es = (e1, (e2, (e3, es)))
+
+with_added_fit : (base : ℕ) (g1 g2 g3 : Phdr) (hs : List Phdr) → IsHeader g1 → IsHeader g2 → IsHeader g3 → AllByRecursion IsHeader hs → AllByRecursion IsHeader (with_added base (g1 ∷ g2 ∷ g3 ∷ []) hs)
+unfolding with_added
+with_added_fit base g1 g2 g3 [] e1 e2 e3 are = (e1, (e2, (e3, tt)))
+with_added_fit base g1 g2 g3 (h ∷ hs) e1 e2 e3 are =
+    cond_both (maps h && ltb base h.vaddr) ((g1 ∷ g2 ∷ g3 ∷ []) ++ map kept_header (h ∷ hs)) (kept_header h ∷ with_added base (g1 ∷ g2 ∷ g3 ∷ []) hs) (AllByRecursion IsHeader)
+    (λ _. three_and g1 g2 g3 (map kept_header (h ∷ hs)) e1 e2 e3 (kept_all_fit (h ∷ hs) are))
+    (λ _. (kept_fits h are.0, with_added_fit base g1 g2 g3 hs e1 e2 e3 are.1))
+
+length-with_added : (base : ℕ) (added hs : List Phdr) → length (with_added base added hs) ≡ length added + length hs
+unfolding with_added
+length-with_added base added [] = omega arith
+length-with_added base added (h ∷ hs) =
+    cond_both (maps h && ltb base h.vaddr) (added ++ map kept_header (h ∷ hs)) (kept_header h ∷ with_added base added hs) (λ l. length l ≡ length added + length (h ∷ hs))
+    (λ _. omega (arith, length-append added (map kept_header (h ∷ hs)), length-map hs kept_header))
+    (λ _. omega (arith, length-with_added base added hs))
+
+loads_some : (base : ℕ) (g : Phdr) (gs hs : List Phdr) → is_load g ≡ true → list_any is_load (with_added base (g ∷ gs) hs) ≡ true
+unfolding with_added
+loads_some base g gs [] l = or_left (is_load g) (list_any is_load gs) l
+loads_some base g gs (h ∷ hs) l =
+    cond_both (maps h && ltb base h.vaddr) ((g ∷ gs) ++ map kept_header (h ∷ hs)) (kept_header h ∷ with_added base (g ∷ gs) hs) (λ hs. list_any is_load hs ≡ true)
+    (λ _. or_left (is_load g) (list_any is_load (gs ++ map kept_header (h ∷ hs))) l)
+    (λ _. or_right (is_load (kept_header h)) (list_any is_load (with_added base (g ∷ gs) hs)) (loads_some base g gs hs l))
+
+-- each header's segment is apart from the block
+apart_headers : (k : Block) (hs : List Phdr) → list_all (is_apart k.page (k.page + block_size k / 4096)) (filter_map segment_of hs) ≡ true → AreApart k hs
+apart_headers k [] e = tt
+apart_headers k (h ∷ hs) e =
+    let to = k.page + block_size k / 4096 in
+    let seg : Segment = record { range = record { lo = h.vaddr; len = h.memsz }; offset = h.offset; filesz = h.filesz; write = has_write h; exec = has_exec h } in
+    elim (cases_Bool (maps h)) [
+      | inl m ↦
+          let e' : list_all (is_apart k.page to) (seg ∷ filter_map segment_of hs) ≡ true = sym (ap (λ t. list_all (is_apart k.page to) (cons_option (cond t (Some seg) None) (filter_map segment_of hs))) m) ∙ e in
+          let q = and_parts (is_apart k.page to seg) (list_all (is_apart k.page to) (filter_map segment_of hs)) e' in (
+            λ _. elim (or_cases (leb to (h.vaddr / 4096)) (leb ((h.vaddr + h.memsz + 4095) / 4096) k.page) q.0) [
+              | inl t ↦ inl (leb-true to (h.vaddr / 4096) t)
+              | inr t ↦ inr (leb-true ((h.vaddr + h.memsz + 4095) / 4096) k.page t)
+            ],
+            apart_headers k hs q.1,
+          )
+      | inr m ↦
+          let e' : list_all (is_apart k.page to) (filter_map segment_of hs) ≡ true = sym (ap (λ t. list_all (is_apart k.page to) (cons_option (cond t (Some seg) None) (filter_map segment_of hs))) m) ∙ e in
+          (λ t. absurd (true≢false (sym t ∙ m)), apart_headers k hs e')
+    ]
+
+abbrev added_by : ℕ → ℕ → ℕ → ℕ → List Phdr
+added_by place base c t = added_header place base c c 5 ∷ added_header (place + up c) (base + up c) t t 4 ∷ added_header (place + up c + up t) (base + up c + up t) 0 64 6 ∷ []
+
+module _ (b : List ℕ) (base : ℕ) (is : IsInput b base) where
+  pub room : HasRoom (segments b) (size b) base
+  room = has_room_at b base is.base_is
+
+  -- the block of the plan
+  abbrev pub block : Block
+  block = record { page = room.page; base = base; code = code_len b; table = table_len b; private = 64; place = code_place (length b) }
+
+  pub based : (base ≡ 4096 * block.page) × (0x100 ≤ block.page) × (base + size b ≤ 0xB0000000)
+  based = (room.at, room.from, room.low)
+
+  pub headers_are : new_headers b (plan_at b base) ≡ with_added base (block_headers block) (headers b)
+  unfolding plan_at
+  headers_are =
+      ap (λ l. with_added base l (headers b))
+      (ap (λ c. added_by (code_place (length b)) base c (length (table_of (plan_at b base)))) (length-code b base) ∙ ap (λ t. added_by (code_place (length b)) base (code_len b) t) (length-table_of b base))
+
+  pub entry_bound : (a : ℕ) → entry_in (pairs_at b base) a < 2 ^ 32
+  entry_bound a = omega (arith, entry_in-le (sites b) base a, room.low, size_is b base)
+
+  entry_lt : (plan_at b base).entry < 2 ^ 32
+  unfolding plan_at
+  entry_lt =
+      cond_both (eqb (entry_in (pairs_at b base) (entry_at b)) 0) (entry_at b) (entry_in (pairs_at b base) (entry_at b)) (λ n. n < 2 ^ 32) (λ _. word_at-lt b 24 is.bytes) (λ _. entry_bound (entry_at b))
+
+  new_fit : AllByRecursion IsHeader (with_added base (block_headers block) (headers b))
+  new_fit =
+      let l = room.low in
+      let s = size_is b base in
+      with_added_fit base (code_of_block block) (table_of_block block) (private_of_block block) (headers b)
+      (record { kind = lit< tt; offset = omega (arith, is.small); vaddr = omega (arith, l); paddr = omega (arith, l); filesz = omega (arith, l, s); memsz = omega (arith, l, s); flags = lit< tt; align = lit< tt })
+      (record { kind = lit< tt; offset = omega (arith, is.small, l, s, room.at, room.from); vaddr = omega (arith, l, s); paddr = omega (arith, l, s); filesz = omega (arith, l, s); memsz = omega (arith, l, s); flags = lit< tt; align = lit< tt })
+      (record { kind = lit< tt; offset = omega (arith, is.small, l, s, room.at, room.from); vaddr = omega (arith, l, s); paddr = omega (arith, l, s); filesz = lit< tt; memsz = lit< tt; flags = lit< tt; align = lit< tt })
+      (headers_fit b is.bytes)
+
+  length-new : length (new_headers b (plan_at b base)) ≡ 3 + header_count b
+  length-new = ap (λ (l : List Phdr). length l) headers_are ∙ (length-with_added base (block_headers block) (headers b) ∙ ap (λ n. 3 + n) (length-headers b))
+
+  -- a file without a fault has 52 bytes
+  head_none : head_fault b ≡ None
+  unfolding load_refusal
+  head_none = (neither (head_fault b) _ is.loads).0
+
+  pub headers_none : headers_fault (length b) 0 0 (headers b) ≡ None
+  unfolding load_refusal
+  headers_none = (neither (headers_fault (length b) 0 0 (headers b)) _ (neither (head_fault b) _ is.loads).1).0
+
+  long : 52 ≤ length b
+  unfolding head_fault
+  long = ltb-false (length b) 52 (passed (ltb (length b) 52) ShortHeader _ head_none).0
+
+  writable : IsWritable b (plan_at b base)
+  writable = record {
+    ident = omega (arith, long);
+    entry = entry_lt;
+    headers_fit = subst (AllByRecursion IsHeader) (sym headers_are) new_fit;
+    some_header = omega (arith, length-new);
+    few_headers = omega (arith, length-new, is.few_headers);
+    few_runs = omega (arith, is.few_runs, ap (λ (l : List RunPlace). length l) (plan_runs b base), length-run_places (base + up (code_len b)) (runs_of b));
+  }
+
+  pub wrote : IsWritten b (plan_at b base) (file_of b (plan_at b base))
+  wrote = written b (plan_at b base) writable
+
+  pub length-output : length (file_of b (plan_at b base)) ≡ code_place (length b) + up (code_len b) + up (table_len b)
+  length-output =
+      wrote.length_is ∙ (ap (λ c. code_place (length b) + up c + up (length (table_of (plan_at b base)))) (length-code b base) ∙ ap (λ t. code_place (length b) + up (code_len b) + up t) (length-table_of b base))
+
+  pub is_block : IsBlock (length (file_of b (plan_at b base))) block
+  is_block = record {
+    at = room.at;
+    low = omega (arith, room.low, size_is b base);
+    aligned = omega arith;
+    inside = omega (arith, length-output);
+    some = lit< tt;
+  }
+
+  pub headers_apart : AreApart block (headers b)
+  unfolding segments
+  headers_apart = apart_headers block (headers b) (ap (λ n. list_all (is_apart room.page (room.page + n / 4096)) (segments b)) (sym (size_is b base)) ∙ room.apart)
+
+  pub output_headers : headers (file_of b (plan_at b base)) ≡ with_added base (block_headers block) (headers b)
+  output_headers = wrote.headers_are ∙ headers_are
+
+  -- the output has no fault
+  pub admitted : load_refusal (file_of b (plan_at b base)) ≡ None
+  unfolding load_refusal
+  admitted =
+      let x = file_of b (plan_at b base) in
+      let hs = with_added base (block_headers block) (headers b) in
+      let fine : headers_fault (length x) 0 0 hs ≡ None =
+      fine_output (length b) (length x) 0 0 0 0 block (headers b) is.small (omega (arith, length-output)) is_block (omega arith) (omega arith) headers_apart headers_none in
+      ap (λ o. or_else o (or_else (headers_fault (length x) 0 0 (headers x)) (fault_if (not (list_any is_load (headers x))) NoLoad))) wrote.no_fault
+      ∙ (ap (λ l. or_else (headers_fault (length x) 0 0 l) (fault_if (not (list_any is_load l)) NoLoad)) output_headers
+      ∙ (ap (λ o. or_else o (fault_if (not (list_any is_load hs)) NoLoad)) fine
+      ∙ ap (λ t. fault_if (not t) NoLoad) (loads_some base (code_of_block block) (table_of_block block ∷ private_of_block block ∷ []) (headers b) refl)))

@@ -1,0 +1,144 @@
+-- An output is relocated.
+use Rattle.std.proofs.Common.{◌≡◌, ℕ, ◌+◌, Bool, true, false, ltb, List, [], ◌∷◌, length, Option, Some, None, refl, sym, ap, ◌∙◌, inl, inr, arith}
+use Rattle.std.proofs.lemmas.Bool.{cases_Bool, cases_lt, and_from, and_cases, lt-ltb, ltb-false, true≢false}
+use Rattle.mv_base.specs.Memory.{Cell, within, first_of, cell_is}
+use Rattle.elf32_read.specs.declared.image.Phdr.{Phdr}
+use Rattle.elf32_read.specs.Fields.{headers, entry_at, is_load, maps, has_write, has_exec}
+use Rattle.elf32_read.specs.Faults.{headers_fault, free_after}
+use Rattle.elf32_read.specs.Load.{load}
+use Rattle.mv_rewrite.specs.Layout.{up, code_len, table_len, plan_at}
+use Rattle.mv_rewrite.specs.File.{with_added, file_of}
+use Rattle.mv_rewrite.specs.Frame.{is_added, is_private}
+use Rattle.mv_rewrite.specs.Relocated.{IsRelocated, without_exec}
+use Rattle.mv_rewrite.proofs.EntryWords.{within_parts}
+use Rattle.mv_rewrite.proofs.Placed.{IsPlaced, map_is, others, mapped, pieces}
+use Rattle.mv_rewrite.proofs.Fine.{IsFine}
+use Rattle.mv_rewrite.proofs.NewHeaders.{Block, IsBlock, block_headers, AreApart, fine_parts}
+use Rattle.mv_rewrite.proofs.NewCells.{not_within, header_cell, cells_of, loads, cell_inside, cell_outside, cell_unloaded, within_not, kept_cells, InBlock, OutOfBlock, output_out, output_in, code_cell, block_fixed, private_cell}
+use Rattle.mv_rewrite.proofs.Planned.{length-code, size_is, IsInput, room, block, headers_none, wrote, is_block, headers_apart, output_headers, admitted}
+use Rattle.mv_rewrite.proofs.Recorded.{frame_is, framed, table_there}
+
+-- ---- the input's cells
+
+-- the input has no cell in the block
+input_out : (b : List ℕ) (len : ℕ) (k : Block) (hs : List Phdr) (a : ℕ) → IsBlock len k → InBlock k a → AreApart k hs → cells_of b hs a ≡ None
+input_out b len k [] a is at apart = refl
+input_out b len k (h ∷ hs) a is at apart =
+    let none : header_cell b h a ≡ None = elim (cases_Bool (maps h)) [
+      | inl m ↦ cell_outside b h a (within_not h.vaddr h.memsz a (elim (apart.0 m) [
+        | inl up ↦ inl (omega (arith, up, at.below, is.at))
+        | inr down ↦ inr (omega (arith, down, at.from, is.at))
+      ]))
+      | inr m ↦ elim (and_cases (is_load h) (ltb 0 h.memsz) m) [
+        | inl l ↦ cell_unloaded b h a l
+        | inr n ↦ cell_outside b h a (within_not h.vaddr h.memsz a (elim (cases_lt a h.vaddr) [ inl lt ↦ inl lt | inr ge ↦ inr (omega (arith, ge, ltb-false 0 h.memsz n)) ]))
+      ]
+    ] in
+    ap (λ u. first_of u (cells_of b hs a)) none ∙ input_out b len k hs a is at apart.1
+
+-- an executable cell of the input is not writable
+abbrev write_of : Option Cell → Bool
+write_of c = cell_is (λ c. c.write) c
+
+abbrev exec_of : Option Cell → Bool
+exec_of c = cell_is (λ c. c.exec) c
+
+fixed_one : (b : List ℕ) (len free : ℕ) (h : Phdr) (a : ℕ) → IsFine len free h → exec_of (header_cell b h a) ≡ true → write_of (header_cell b h a) ≡ false
+fixed_one b len free h a fine e =
+    elim (cases_Bool (is_load h)) [
+      | inr l ↦ ap write_of (cell_unloaded b h a l)
+      | inl l ↦ elim (cases_Bool (within h.vaddr h.memsz a)) [
+        | inr w ↦ ap write_of (cell_outside b h a w)
+        | inl w ↦
+            let q = within_parts h.vaddr h.memsz a w in
+            let m : maps h ≡ true = and_from (is_load h) (ltb 0 h.memsz) l (lt-ltb 0 h.memsz (omega (arith, q.0, q.1))) in
+            let x : has_exec h ≡ true = sym (ap exec_of (cell_inside b h a l w)) ∙ e in
+            ap write_of (cell_inside b h a l w) ∙ elim (and_cases (has_write h) (has_exec h) (fine.mapped m).fixed) [
+              | inl t ↦ t
+              | inr t ↦ absurd (true≢false (sym x ∙ t))
+            ]
+      ]
+    ]
+
+fixed_first : (c d : Option Cell) → (exec_of c ≡ true → write_of c ≡ false) → (exec_of d ≡ true → write_of d ≡ false) → exec_of (first_of c d) ≡ true → write_of (first_of c d) ≡ false
+fixed_first None d ec ed e = ed e
+fixed_first (Some c) d ec ed e = ec e
+
+fixed_all : (b : List ℕ) (len free i : ℕ) (hs : List Phdr) (a : ℕ) → headers_fault len free i hs ≡ None → exec_of (cells_of b hs a) ≡ true → write_of (cells_of b hs a) ≡ false
+fixed_all b len free i [] a fine e = refl
+fixed_all b len free i (h ∷ hs) a fine e =
+    let q = fine_parts len free i h hs fine in
+    fixed_first (header_cell b h a) (cells_of b hs a) (fixed_one b len free h a q.0) (fixed_all b len (free_after free h) (i + 1) hs a q.1) e
+
+-- ---- the output
+
+module _ (b : List ℕ) (base : ℕ) (is : IsInput b base) where
+  abbrev x : List ℕ
+  x = file_of b (plan_at b base)
+
+  -- an address of the block, and one outside it
+  in_block : (a : ℕ) → is_added (frame_is b base) a ≡ true → InBlock (block b base is) a
+  in_block a e =
+      let q = within_parts base (up (code_len b) + up (table_len b) + 4096) a e in
+      record { from = q.0; below = omega (arith, q.1) }
+
+  out_block : (a : ℕ) → is_added (frame_is b base) a ≡ false → OutOfBlock (block b base is) a
+  out_block a e = elim (not_within base (up (code_len b) + up (table_len b) + 4096) a e) [
+    | inl lt ↦ inl lt
+    | inr le ↦ inr (omega (arith, le))
+  ]
+
+  outside : (a : ℕ) → is_added (frame_is b base) a ≡ false → load x a ≡ without_exec (load b a)
+  outside a e =
+      loads x (with_added base (block_headers (block b base is)) (headers b)) (output_headers b base is) a
+      ∙ (output_out x (block b base is) (headers b) a (out_block a e)
+      ∙ (kept_cells b x 0 0 (headers b) a (wrote b base is).input_stands is.small (headers_none b base is) ∙ ap without_exec (sym (loads b (headers b) refl a))))
+
+  free : (a : ℕ) → is_added (frame_is b base) a ≡ true → load b a ≡ None
+  free a e = loads b (headers b) refl a ∙ input_out b (length x) (block b base is) (headers b) a (is_block b base is) (in_block a e) (headers_apart b base is)
+
+  added : (a : ℕ) → InBlock (block b base is) a → load x a ≡ cells_of x (block_headers (block b base is)) a
+  added a at =
+      loads x (with_added base (block_headers (block b base is)) (headers b)) (output_headers b base is) a
+      ∙ output_in x (length x) (block b base is) (headers b) a (is_block b base is) at (headers_apart b base is)
+
+  private_in : (a : ℕ) → is_private (frame_is b base) a ≡ true → InBlock (block b base is) a
+  private_in a e =
+      let q = within_parts (base + up (code_len b) + up (table_len b)) 64 a e in
+      record { from = omega (arith, q.0); below = omega (arith, q.1) }
+
+  pub is_placed : IsPlaced b base x (frame_is b base)
+  is_placed = record {
+    table_is = table_there b base is;
+    table_lo = refl;
+    runs_are = refl;
+    counters = refl;
+    private = refl;
+    added_lo = refl;
+    added_len = sym (size_is b base);
+    cells = λ k lt.
+        let len = length-code b base in
+        added (base + k) (record { from = omega arith; below = omega (arith, lt, len) })
+        ∙ code_cell x (plan_at b base).code (block b base is) k len (wrote b base is).code_stands lt;
+    positive = omega (arith, (room b base is).at, (room b base is).from);
+    low = (room b base is).low;
+    code = is.code;
+  }
+
+  pub relocated : IsRelocated b x (frame_is b base)
+  unfolding plan_at
+  relocated = record {
+    admitted = admitted b base is;
+    framed = framed b base is;
+    low = omega (arith, (room b base is).low, size_is b base);
+    uncounted = refl;
+    entry = (wrote b base is).entry_is ∙ sym (map_is b base x (frame_is b base) is_placed (entry_at b));
+    outside = outside;
+    free = free;
+    fixed = λ a e w. ap write_of (added a (in_block a e)) ∙ block_fixed x (block b base is) a w;
+    idle = λ a e. ap exec_of (added a (private_in a e) ∙ private_cell x (block b base is) a e);
+    unwritable = λ a e. ap write_of (loads b (headers b) refl a) ∙ fixed_all b (length b) 0 0 (headers b) a (headers_none b base is) (sym (ap exec_of (loads b (headers b) refl a)) ∙ e);
+    pieces = pieces b base x (frame_is b base) is_placed;
+    others = others b base x (frame_is b base) is_placed;
+    mapped = mapped b base x (frame_is b base) is_placed;
+  }

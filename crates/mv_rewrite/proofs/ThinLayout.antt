@@ -1,0 +1,195 @@
+-- The layout of a thin file: what its sites, its block and its table are.
+use Rattle.std.proofs.Common.{◌≡◌, ℕ, zero, suc, ◌+◌, ◌*◌, ◌/◌, ◌^◌, ◌<◌, ◌≤◌, ◌⊎◌, Bool, true, false, cond, List, [], ◌∷◌, length, Option, Some, None, refl, sym, ap, ◌∙◌, subst, inl, inr, arith}
+use Rattle.std.specs.Prelude.{IsSome}
+use Rattle.std.specs.List.{list_all}
+use Rattle.std.specs.Option.{option_map}
+use Rattle.std.proofs.lemmas.Bool.{cases_lt}
+use Rattle.std.proofs.lemmas.Bool.Decides.{nat_tests}
+use Rattle.mv_base.specs.declared.range.RunPlace.{RunPlace}
+use Rattle.elf32_read.specs.declared.image.Phdr.{Phdr}
+use Rattle.elf32_read.specs.declared.image.Segment.{Segment}
+use Rattle.elf32_read.specs.declared.run.Run.{Run}
+use Rattle.elf32_read.specs.Fields.{header_at, entry_at, segments}
+use Rattle.elf32_read.specs.Faults.{is_thin}
+use Rattle.elf32_read.specs.Runs.{runs_of, code_of, AreApart}
+use Rattle.elf32_read.specs.Thin.{IsThinHeader, thin_header_facts, thin_segment, thin_run, segments-thin, runs_of-thin, length-thin_run, code_of-runs_of, AreApart-runs_of}
+use Rattle.mv_rewrite.specs.declared.site.Site.{Site}
+use Rattle.mv_rewrite.specs.declared.plan.Plan.{Plan}
+use Rattle.mv_rewrite.specs.declared.table.AddressTable.{AddressTable}
+use Rattle.mv_rewrite.specs.Sites.{code_in, sites, sites_in, addresses}
+use Rattle.mv_rewrite.specs.Pieces.{slots}
+use Rattle.mv_rewrite.specs.Layout.{up, size, places, entry_in, moved, is_apart, has_room, lowest, first_fit, base_of, plan_at, table, run_places}
+use Rattle.mv_rewrite.specs.Laying.{IsLaid}
+use Rattle.mv_rewrite.specs.Lookup.{Ascend, IsTable, HasWords, table_entry, table_move}
+use Rattle.mv_rewrite.specs.Room.{ArePagesApart}
+use Rattle.mv_rewrite.specs.Slots.{AreShort}
+use Rattle.mv_base.specs.Table.{entry_or, flat_entry}
+use Rattle.mv_rewrite.proofs.RunOrder.{length-cons, length-nil}
+use Rattle.mv_rewrite.proofs.Fit.{fits_at, taken}
+use Rattle.mv_rewrite.proofs.SiteList.{sites_ascend, sites_mapped, sites_short, sites_count, entry_fits}
+use Rattle.mv_rewrite.proofs.TableWords.{table_entry_is, table_has_words}
+
+-- functions that agree are the same
+same_code : (c d : ℕ → Option ℕ) → ((a : ℕ) → c a ≡ d a) → c ≡ d
+same_code c d h = λ i a. h a i
+
+same_moves : (c d : ℕ → ℕ) → ((a : ℕ) → c a ≡ d a) → c ≡ d
+same_moves c d h = λ i a. h a i
+
+-- what the layout of a file stands on
+pub record LayFacts (b : List ℕ) (rs : List Run) (ss : List Site) : Type 0 where
+  pub apart : AreApart 0 rs
+  pub count : length (addresses rs) ≤ 4194304
+  pub site_count : length ss ≤ 4194304
+  pub ascend : (base : ℕ) → Ascend 0 (places base ss)
+  pub short : AreShort ss
+  pub mapped : (base a : ℕ) → code_of rs a ≡ None → entry_in (places base ss) a ≡ 0
+  pub code_is : code_in b ≡ code_of rs
+  pub size_is : size b ≡ up (32 * length ss) + up (4 * length (addresses rs)) + 4096
+
+thin_count : (b : List ℕ) → is_thin b ≡ true → length (addresses (runs_of b)) ≤ 4194304
+thin_count b thin =
+    let facts = thin_header_facts b thin in
+    omega (arith, ap (λ (rs : List Run). length (addresses rs)) (runs_of-thin b thin), length-cons (thin_run b (header_at b 52)) [], length-nil, length-thin_run b thin, facts.limit)
+
+thin_code : (b : List ℕ) → is_thin b ≡ true → code_in b ≡ code_of (runs_of b)
+thin_code b thin = same_code (code_in b) (code_of (runs_of b)) (code_of-runs_of b thin)
+
+pub thin_sites : (b : List ℕ) → is_thin b ≡ true → sites b ≡ sites_in (code_of (runs_of b)) (runs_of b)
+unfolding sites
+thin_sites b thin = ap (λ (c : ℕ → Option ℕ). sites_in c (runs_of b)) (thin_code b thin)
+
+size_is : (b : List ℕ) → size b ≡ up (32 * length (sites b)) + up (4 * length (addresses (runs_of b))) + 4096
+unfolding size
+size_is b = refl
+
+facts_of : (b : List ℕ) → is_thin b ≡ true → LayFacts b (runs_of b) (sites b)
+facts_of b thin =
+    let rs = runs_of b in
+    let e = thin_sites b thin in
+    record {
+      apart = AreApart-runs_of b thin;
+      count = thin_count b thin;
+      site_count = omega (arith, ap length e, sites_count (code_of rs) rs, thin_count b thin);
+      ascend = λ base. subst (λ (ss : List Site). Ascend 0 (places base ss)) (sym e) (sites_ascend rs base (AreApart-runs_of b thin));
+      short = subst (λ (ss : List Site). AreShort ss) (sym e) (sites_short rs);
+      mapped = λ base a none. ap (λ (ss : List Site). entry_in (places base ss) a) e ∙ sites_mapped rs base a none;
+      code_is = thin_code b thin;
+      size_is = size_is b;
+    }
+
+pub lay_facts : (b : List ℕ) (rs : List Run) (ss : List Site) → is_thin b ≡ true → rs ≡ runs_of b → ss ≡ sites b → LayFacts b rs ss
+lay_facts b rs ss thin e f =
+    subst (λ (x : List Site). LayFacts b rs x) (sym f) (subst (λ (x : List Run). LayFacts b x (sites b)) (sym e) (facts_of b thin))
+
+-- the one segment shares no page with another
+pub thin_apart : (b : List ℕ) (ss : List Segment) → is_thin b ≡ true → ss ≡ segments b → ArePagesApart 0 ss
+thin_apart b ss thin e = subst (λ (t : List Segment). ArePagesApart 0 t) (sym (e ∙ segments-thin b thin)) (omega arith, tt)
+
+pub size_bounds : (b : List ℕ) → is_thin b ≡ true → (4096 ≤ size b) × (size b ≤ 151003136)
+size_bounds b thin =
+    let f = facts_of b thin in
+    (omega (arith, f.size_is), omega (arith, f.size_is, f.count, f.site_count))
+
+one_apart : (from to : ℕ) (s : Segment) → (to ≤ s.range.lo / 4096) ⊎ ((s.range.lo + s.range.len + 4095) / 4096 ≤ from) → list_all (is_apart from to) (s ∷ []) ≡ true
+one_apart from to s o = elim o [ inl h ↦ grind (arith, nat_tests) | inr h ↦ grind (arith, nat_tests) ]
+
+some_is : (o : Option ℕ) (x : ℕ) → o ≡ Some x → IsSome o
+some_is o x h = subst (λ (t : Option ℕ). IsSome t) (sym h) refl
+
+fits_one : (h : Phdr) (len n : ℕ) → IsThinHeader len h → 4096 ≤ n → n ≤ 151003136 → IsSome (first_fit (thin_segment h ∷ []) n)
+fits_one h len n facts some limit =
+    let s = thin_segment h in
+    let end = (h.vaddr + h.memsz + 4095) / 4096 in
+    let at_first = λ (o : (0x100 + n / 4096 ≤ s.range.lo / 4096) ⊎ ((s.range.lo + s.range.len + 4095) / 4096 ≤ 0x100)).
+    some_is (first_fit (s ∷ []) n) (4096 * 0x100) (fits_at (s ∷ []) n 0x100 (omega arith) (omega arith) (one_apart 0x100 (0x100 + n / 4096) s o) (λ p low high. absurd (omega arith)) (omega arith)) in
+    elim (cases_lt (h.vaddr / 4096) (0x100 + n / 4096)) [
+      | inl below ↦
+          elim (cases_lt 0x100 end) [
+            | inl above ↦
+                some_is (first_fit (s ∷ []) n) (4096 * end) (fits_at (s ∷ []) n end (omega arith) (omega arith) (one_apart end (end + n / 4096) s (inr (omega arith)))
+                (λ p low high. taken (s ∷ []) 0 s p (p + n / 4096) (omega arith) refl (omega arith) (omega arith)) (omega (arith, facts.limit)))
+            | inr l ↦ at_first (inr l)
+          ]
+      | inr l ↦ at_first (inl l)
+    ]
+
+-- a thin file always has room for its block
+pub base_of-thin : (b : List ℕ) → is_thin b ≡ true → IsSome (base_of b)
+unfolding base_of
+base_of-thin b thin =
+    let bounds = size_bounds b thin in
+    subst (λ (ss : List Segment). IsSome (first_fit ss (size b))) (sym (segments-thin b thin)) (fits_one (header_at b 52) (length b) (size b) (thin_header_facts b thin) bounds.0 bounds.1)
+
+pub base_of_is : (b : List ℕ) (ss : List Segment) (n : ℕ) → ss ≡ segments b → n ≡ size b → base_of b ≡ first_fit ss n
+unfolding base_of
+base_of_is b ss n e f = ap (λ (t : List Segment). first_fit t (size b)) (sym e) ∙ ap (first_fit ss) (sym f)
+
+-- where the block ends
+passes_step : (test : ℕ → Bool) (n from q : ℕ) (t : Bool) → test from ≡ t → cond t (Some from) (lowest test (from + 1) n) ≡ Some q → (lowest test (from + 1) n ≡ Some q → test q ≡ true) → test q ≡ true
+passes_step test n from q true e h later =
+    let same : from ≡ q = cc h in
+    ap test (sym same) ∙ e
+passes_step test n from q false e h later = later h
+
+passes : (test : ℕ → Bool) (n from q : ℕ) → lowest test from n ≡ Some q → test q ≡ true
+unfolding lowest
+passes test zero from q h = absurd (cc h)
+passes test (suc n) from q h = passes_step test n from q (test from) refl h (passes test n (from + 1) q)
+
+end_of : (ss : List Segment) (n q : ℕ) → has_room ss n q ≡ true → 4096 * q + n ≤ 0xB0000000
+unfolding has_room
+end_of ss n q h = grind (arith, nat_tests)
+
+limit_of : (ss : List Segment) (n base : ℕ) (o : Option ℕ) → lowest (has_room ss n) 0x100 0xAFF00 ≡ o → option_map (λ (page : ℕ). 4096 * page) o ≡ Some base → base + n ≤ 0xB0000000
+limit_of ss n base None e h = absurd (cc h)
+limit_of ss n base (Some q) e h =
+    let same : 4096 * q ≡ base = cc h in
+    omega (arith, same, end_of ss n q (passes (has_room ss n) 0xAFF00 0x100 q e))
+
+pub base_limit : (b : List ℕ) (base : ℕ) → base_of b ≡ Some base → base + size b ≤ 0xB0000000
+unfolding base_of first_fit
+base_limit b base h = limit_of (segments b) (size b) base (lowest (has_room (segments b) (size b)) 0x100 0xAFF00) refl h
+
+-- the block's parts end below 2^32
+pub room_facts : (b : List ℕ) (rs : List Run) (ss : List Site) (base : ℕ) → LayFacts b rs ss → base_of b ≡ Some base → (base + 32 * length ss < 2 ^ 32) × (base + up (32 * length ss) + 4 * length (addresses rs) < 2 ^ 32)
+room_facts b rs ss base facts h =
+    let limit = base_limit b base h in
+    (omega (arith, limit, facts.size_is), omega (arith, limit, facts.size_is))
+
+-- the table of a file moves addresses as its pairs do
+pub moves_as : (b : List ℕ) (rs : List Run) (ss : List Site) (base lo : ℕ) (t : AddressTable) → LayFacts b rs ss → base + 32 * length ss < 2 ^ 32 → IsTable (places base ss) rs lo t → table_move t ≡ moved (places base ss)
+moves_as b rs ss base lo t facts room is =
+    let pairs = places base ss in
+    let entry : (a : ℕ) → table_entry t a ≡ entry_in pairs a = λ a.
+    ap (λ (x : List ℕ). flat_entry x t.lo t.places a) is.bytes_are
+    ∙ ap (λ (x : ℕ). flat_entry (table pairs rs) x t.places a) is.lo_is
+    ∙ ap (λ (x : List RunPlace). flat_entry (table pairs rs) lo x a) is.places_are
+    ∙ table_entry_is pairs rs lo (λ x. omega (arith, entry_fits ss base x)) (facts.mapped base) a in
+    same_moves (table_move t) (moved pairs) (λ a. ap (λ (x : ℕ). entry_or x a) (entry a))
+
+pub covered : (pairs : List (ℕ × ℕ)) (rs : List Run) (lo : ℕ) (t : AddressTable) → IsTable pairs rs lo t → HasWords t.bytes t.lo t.places
+covered pairs rs lo t is =
+    subst (λ (x : List ℕ). HasWords x t.lo t.places) (sym is.bytes_are)
+    (subst (λ (x : ℕ). HasWords (table pairs rs) x t.places) (sym is.lo_is)
+    (subst (λ (x : List RunPlace). HasWords (table pairs rs) lo x) (sym is.places_are) (table_has_words pairs rs lo)))
+
+-- the plan field by field
+pub plan_is : (b : List ℕ) (p : Plan) → p.code ≡ slots (moved (places p.base (sites b))) (code_in b) p.base (sites b) → p.table ≡ table (places p.base (sites b)) (runs_of b) → p.counted ≡ [] → p.runs ≡ run_places (p.base + up (32 * length (sites b))) (runs_of b) → p.entry ≡ moved (places p.base (sites b)) (entry_at b) → p ≡ plan_at b p.base
+unfolding plan_at
+plan_is b p code_is table_is counted_is runs_is entry_is = λ i. record { base = p.base; code = code_is i; table = table_is i; counted = counted_is i; runs = runs_is i; entry = entry_is i }
+
+-- the plan field by field, for the runs and sites of a file
+pub laid : (b : List ℕ) (rs : List Run) (ss : List Site) (lo : ℕ) (t : AddressTable) (pairs : List (ℕ × ℕ)) (p : Plan) → LayFacts b rs ss → rs ≡ runs_of b → ss ≡ sites b → base_of b ≡ Some p.base → pairs ≡ places p.base ss → lo ≡ p.base + up (32 * length ss) → IsTable pairs rs lo t → p.code ≡ slots (table_move t) (code_of rs) p.base ss → p.table ≡ t.bytes → p.counted ≡ [] → p.runs ≡ t.places → p.entry ≡ table_move t (entry_at b) → IsLaid b p
+laid b rs ss lo t pairs p facts e f base_is pairs_are lo_is is code_is table_is counted_is runs_is entry_is =
+    let is_table : IsTable (places p.base ss) rs lo t = subst (λ (x : List (ℕ × ℕ)). IsTable x rs lo t) pairs_are is in
+    let move = moves_as b rs ss p.base lo t facts (room_facts b rs ss p.base facts base_is).0 is_table in
+    record {
+      base_is = base_is;
+      plan_is = plan_is b p
+          (code_is ∙ ap (λ (m : ℕ → ℕ). slots m (code_of rs) p.base ss) move ∙ ap (λ (c : ℕ → Option ℕ). slots (moved (places p.base ss)) c p.base ss) (sym facts.code_is) ∙ ap (λ (x : List Site). slots (moved (places p.base x)) (code_in b) p.base x) f)
+          (table_is ∙ is_table.bytes_are ∙ ap (λ (x : List Site). table (places p.base x) rs) f ∙ ap (table (places p.base (sites b))) e)
+          counted_is
+          (runs_is ∙ is_table.places_are ∙ ap (λ (x : ℕ). run_places x rs) lo_is ∙ ap (λ (x : List Site). run_places (p.base + up (32 * length x)) rs) f ∙ ap (run_places (p.base + up (32 * length (sites b)))) e)
+          (entry_is ∙ ap (λ (m : ℕ → ℕ). m (entry_at b)) move ∙ ap (λ (x : List Site). moved (places p.base x) (entry_at b)) f);
+    }

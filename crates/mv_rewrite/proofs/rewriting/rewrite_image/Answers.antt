@@ -1,0 +1,39 @@
+use Rattle.std.proofs.Common.{ℕ, List, length, Some, refl, arith, sym, ap, ◌∙◌}
+use Rattle.mv_base.specs.Span.{Span}
+use Rattle.mv_rewrite.specs.declared.site.Site.{Site}
+use Rattle.mv_rewrite.proofs.Assembled.{ends_low, few_runs, few_headers, output_is, sites_are}
+use Rattle.mv_rewrite.proofs.ThinLayout.{lay_facts}
+use Rattle.mv_rewrite.proofs.rewriting.rewrite_image.Goals as goal
+
+pub lay-requires-clause-sites_are : goal.lay-requires-clause-sites_are
+lay-requires-clause-sites_are c =
+    c.deref-3.ensures.value ∙ sites_are c.args.bytes.now c.deref.result.now c.in_ok-sites.sites.items c.requires.image.thin (c.deref.ensures.value ∙ c.in_ok-runs.ensures.list) c.in_ok-sites.ensures
+
+pub write_image-requires-clause-headers : goal.write_image-requires-clause-headers
+write_image-requires-clause-headers c = few_headers c.args.bytes.now c.args.image.now.headers c.requires.image.thin c.requires.image.headers_are
+
+pub write_image-requires-clause-runs : goal.write_image-requires-clause-runs
+write_image-requires-clause-runs c = few_runs c.args.bytes.now c.in_ok-plan.plan c.requires.image.thin c.in_ok-plan.ensures
+
+pub write_image-requires-clause-block : goal.write_image-requires-clause-block
+write_image-requires-clause-block c = ends_low c.args.bytes.now c.in_ok-plan.plan c.in_ok-plan.ensures
+
+pub overflow_cast-result : goal.overflow_cast-result
+overflow_cast-result c =
+    let runs_are = c.deref.ensures.value ∙ c.in_ok-runs.ensures.list in
+    let sites_there = sites_are c.args.bytes.now c.deref.result.now c.in_ok-sites.sites.items c.requires.image.thin runs_are c.in_ok-sites.ensures in
+    let f = lay_facts c.args.bytes.now c.deref.result.now c.in_ok-sites.sites.items c.requires.image.thin runs_are sites_there in
+    omega (arith, f.site_count, c.len.ensures, c.deref-3.ensures.len, ap (λ (l : List Site). length l) c.deref-3.ensures.value)
+
+pub returns : goal.returns
+returns c =
+    let runs_are = c.deref.ensures.value ∙ c.in_ok-runs.ensures.list in
+    let sites_there = sites_are c.args.bytes.now c.deref.result.now c.in_ok-sites.sites.items c.requires.image.thin runs_are c.in_ok-sites.ensures in
+    record {
+      thin = c.requires.image.thin;
+      bytes = output_is c.args.bytes.now c.in_ok-plan.plan c.in_ok-plan.ensures ∙ ap (λ (x : List ℕ). Some x) (sym c.in_ok-file.ensures);
+      site_count = omega (arith, c.len.ensures, c.deref-3.ensures.len, ap (λ (l : List Site). length l) c.deref-3.ensures.value, ap (λ (l : List Site). length l) sites_there);
+      added_lo = c.in_ok-plan.ensures.base_is ∙ ap (λ (s : Span). Some s.lo) (sym c.added.ensures);
+      added_len = ap (λ (s : Span). s.len) c.added.ensures;
+      no_counters = refl;
+    }

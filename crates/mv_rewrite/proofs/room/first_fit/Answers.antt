@@ -1,0 +1,18 @@
+use Rattle.std.proofs.Common.{sym, arith}
+use Rattle.mv_rewrite.proofs.Fit.{fits_at, fits_nowhere}
+use Rattle.mv_rewrite.proofs.room.first_fit.Goals as goal
+use Rattle.mv_rewrite.proofs.room.first_fit.Goals.{else-size-le-TOP-via-then-size-le-TOP+else-page-size, else-size-le-TOP-via-else-size-le-TOP}
+
+pub returns-then-page-size : goal.returns-then-page-size
+returns-then-page-size c =
+    let p = c.free_page-page.ensures in
+    sym (fits_at c.args.segments.now c.args.size c.free_page-page.result c.requires.some p.low p.free p.lowest (omega arith))
+
+pub returns-else-size-le-TOP : goal.returns-else-size-le-TOP
+returns-else-size-le-TOP c =
+    let p = c.free_page-page.ensures in
+    sym (fits_nowhere c.args.segments.now c.args.size c.free_page-page.result p.lowest (
+    elim c.else-size-le-TOP.branch [
+      | else-size-le-TOP-via-then-size-le-TOP+else-page-size w ↦ omega arith
+      | else-size-le-TOP-via-else-size-le-TOP w ↦ omega arith
+    ]))

@@ -1,0 +1,113 @@
+//! The layout of the added block: where it lies, and what is where in it.
+
+ghost use Rattle.std.specs.Prelude.{◌≡◌, ◌+◌, ◌*◌, ◌^◌, ◌<◌, ◌≤◌, length, Some, true, IfOk};
+ghost use Rattle.elf32_read.specs.Faults.{is_thin};
+ghost use Rattle.elf32_read.specs.Reading.{IsImage};
+ghost use Rattle.elf32_read.specs.Runs.{runs_of};
+ghost use Rattle.mv_rewrite.specs.Laying.{IsLaid};
+ghost use Rattle.mv_rewrite.specs.Layout.{up as up_of, size as size_of, base_of};
+ghost use Rattle.mv_rewrite.specs.Sites.{sites as sites_of};
+
+use crate::entries::address_count;
+use crate::plan::Plan;
+use crate::room::first_fit;
+use crate::site::Site;
+use crate::slots::{SLOT_LEN, places, slots};
+use crate::table::AddressTable;
+use elf32_read::{Image, Run};
+use mv_base::{Addrs, Bytes, NoMemory};
+use std::alloc::Global;
+
+/// How many bytes the private area has without counters.
+const PRIVATE_LEN: u64 = 64;
+
+/// What is added to a file: the block at the lowest place that has room, with the slots of the sites and the table of
+/// form 1. The image was read from the bytes, and the runs and sites are the file's.
+///
+/// # Errors
+///
+/// `NoMemory`.
+pub fn lay(
+    alloc: Global,
+    image: &Image,
+    bytes: &[u8],
+    runs: &[Run],
+    sites: &[Site],
+) -> Result<Plan, NoMemory>
+    requires image { IsImage bytes.now image.now }
+    requires runs_are { runs.now ≡ runs_of bytes.now }
+    requires sites_are { sites.now ≡ sites_of bytes.now }
+    ensures { IfOk result (λ plan. IsLaid bytes.now plan) }
+{
+    let base = base(image, bytes, block_size(bytes, runs, sites));
+    lay_at(alloc, image, bytes, runs, sites, base)
+}
+
+/// A number raised to a multiple of 4,096.
+fn up(n: u64) -> u64
+    requires { n ≤ 2 ^ 32 }
+    ensures { result ≡ up_of n }
+{
+    (n + 4095) / 4096 * 4096
+}
+
+/// How many bytes the code of the sites has, up to a multiple of 4,096.
+fn code_room(sites: &[Site]) -> u64
+    requires { length sites.now ≤ 2 ^ 22 }
+    ensures { result ≡ up_of (32 * length sites.now) }
+{
+    up(SLOT_LEN as u64 * sites.len() as u64)
+}
+
+/// How many bytes the added block has.
+fn block_size(_bytes: &[u8], runs: &[Run], sites: &[Site]) -> u64
+    requires thin { is_thin _bytes.now ≡ true }
+    requires runs_are { runs.now ≡ runs_of _bytes.now }
+    requires sites_are { sites.now ≡ sites_of _bytes.now }
+    ensures { result ≡ size_of _bytes.now }
+{
+    code_room(sites) + up(4 * u64::from(address_count(runs))) + up(PRIVATE_LEN)
+}
+
+/// Where the added block lies.
+fn base(image: &Image, _bytes: &[u8], size: u64) -> u32
+    requires image { IsImage _bytes.now image.now }
+    requires size_is { size ≡ size_of _bytes.now }
+    ensures { base_of _bytes.now ≡ Some result }
+{
+    first_fit(image.segments.as_slice(), size).unwrap()
+}
+
+/// What is added to a file, where the block lies at `base`.
+fn lay_at(
+    alloc: Global,
+    image: &Image,
+    _bytes: &[u8],
+    runs: &[Run],
+    sites: &[Site],
+    base: u32,
+) -> Result<Plan, NoMemory>
+    requires image { IsImage _bytes.now image.now }
+    requires runs_are { runs.now ≡ runs_of _bytes.now }
+    requires sites_are { sites.now ≡ sites_of _bytes.now }
+    requires base_is { base_of _bytes.now ≡ Some base }
+    ensures { IfOk result (λ plan. IsLaid _bytes.now plan) }
+{
+    let pairs = places(alloc, sites, base)?;
+    let table = AddressTable::build(alloc, runs, &pairs, base + code_room(sites) as u32)?;
+    let code = slots(alloc, runs, &table, sites, base)?;
+    let entry = table.moved(image.entry);
+    let AddressTable {
+        lo: _,
+        bytes,
+        places,
+    } = table;
+    Ok(Plan {
+        base,
+        code: Bytes::new(code),
+        table: bytes,
+        counted: Addrs::new(Vec::new(alloc)),
+        runs: places,
+        entry,
+    })
+}

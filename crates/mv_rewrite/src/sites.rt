@@ -1,0 +1,54 @@
+//! Sites: decoding from every byte of the runs.
+
+ghost use Rattle.std.specs.Prelude.{◌≡◌, ◌+◌, ◌<◌, ◌≤◌, [], ◌∷◌, ◌++◌, length, IfOk, OnOk};
+ghost use Rattle.elf32_read.specs.Runs.{code_of, AreApart};
+ghost use Rattle.mv_rewrite.specs.Sites.{site_at, sites_in};
+
+use crate::decoding::{Decoded, decode};
+use crate::site::Site;
+use elf32_read::Run;
+use mv_base::NoMemory;
+use std::alloc::Global;
+
+/// All sites of the runs, ascending. The runs ascend with a gap between any two.
+pub fn sites(alloc: Global, runs: &[Run]) -> Result<Vec<Site>, NoMemory>
+    requires { AreApart 0 runs.now }
+    ensures { IfOk result (λ found. found.items ≡ sites_in (code_of runs.now) runs.now) }
+{
+    let mut found = Vec::new(alloc);
+    for run in runs {
+        add_sites(run, &mut found)?;
+    }
+    Ok(found)
+}
+
+/// Appends the sites of a run.
+fn add_sites(run: &Run, found: &mut Vec<Site>) -> Result<(), NoMemory>
+    requires { run.now.lo + length run.now.bytes ≤ 0xFFFFF000 }
+    ensures { OnOk result
+        (found.new.items ≡ found.old.items ++ sites_in (code_of (run.now ∷ [])) (run.now ∷ [])) }
+{
+    for offset in 0..run.bytes.len() {
+        if let Some(site) = site_in(run, offset) {
+            found.push(site)?;
+        }
+    }
+    Ok(())
+}
+
+/// The site at an offset of a run, where there is one.
+fn site_in(run: &Run, offset: usize) -> Option<Site>
+    requires within { offset < length run.now.bytes }
+    requires ends { run.now.lo + length run.now.bytes ≤ 0xFFFFF000 }
+    ensures { result ≡ site_at (code_of (run.now ∷ [])) (run.now.lo + offset) }
+{
+    match decode(&run.bytes.as_slice()[offset..]) {
+        Decoded::Insn { insn, len } => Some(Site {
+            at: run.lo + offset as u32,
+            len,
+            insn,
+        }),
+        Decoded::Short => None,
+        Decoded::Unknown => None,
+    }
+}
