@@ -1,6 +1,6 @@
 -- The faults of a file, one statement each about the whole file, and the first of them. ELF32; the order is this
 -- project's own.
-use Rattle.std.specs.Prelude.{ℕ, ◌+◌, ◌*◌, ◌/◌, ◌%◌, Bool, not, ◌&&◌, ◌||◌, List, [], ◌∷◌, length, Option, Some, None, nat_lt, nat_le, ◌==◌, if◌then◌else◌, slice_index}
+use Rattle.std.specs.Prelude.{ℕ, ◌+◌, ◌*◌, ◌/◌, ◌%◌, Bool, not, ◌&&◌, ◌||◌, List, [], ◌∷◌, length, Option, Some, None, nat_lt, ◌==◌, if◌then◌else◌, slice_index}
 use Rattle.std.specs.List.{list_any, starts_with, sum_by}
 use Rattle.std.specs.Prelude.{nat_eq}
 use Rattle.mv_base.specs.Bytes.{half_at, word_at}
@@ -8,7 +8,7 @@ use Rattle.elf32_read.specs.declared.fault.ImageFault.{ImageFault}
 use Rattle.elf32_read.specs.declared.fault.ImageFault.TheVariants.{ShortHeader, NotElf, NotElf32Little, NotI386, NotExecutable, BadVersion, BadSizes, HeaderCount, HeadersOutside, Interpreter, Dynamic, FileRange, MemorySmaller, AddressRange, NoPermission, WritableCode, NotCongruent, SharedPage, NoLoad, CodeTooLarge, HeadersFull}
 use Rattle.elf32_read.specs.declared.image.Phdr.{Phdr}
 use Rattle.elf32_read.specs.declared.image.Segment.{Segment}
-use Rattle.elf32_read.specs.Fields.{header_at, header_offset, header_count, headers, is_load, maps, has_exec, has_write, has_read, segments}
+use Rattle.elf32_read.specs.Fields.{header_offset, header_count, headers, is_load, maps, has_exec, has_write, has_read, segments}
 
 -- the first of two faults
 abbrev pub or_else : Option ImageFault → Option ImageFault → Option ImageFault
@@ -82,32 +82,3 @@ limit_fault b = or_else (fault_if (nat_lt 4194304 (code_size (segments b))) Code
 -- the first fault of a file that is to be rewritten
 unfoldable pub refusal : List ℕ → Option ImageFault
 refusal b = or_else (load_refusal b) (limit_fault b)
-
--- a header whose bytes are all of its memory, can be read and executed, and lie in a file of this length
-unfoldable pub is_thin_header : ℕ → Phdr → Bool
-is_thin_header len h =
-    h.kind == 1
-    && h.flags == 5
-    && h.filesz == h.memsz
-    && nat_lt 0 h.filesz
-    && nat_le h.filesz 4194304
-    && nat_le (h.offset + h.filesz) len
-    && nat_le (h.vaddr + h.memsz) 0xFFFFF000
-    && h.offset % 4096 == h.vaddr % 4096
-
--- an ELF header before one program header at 52
-unfoldable pub is_thin_head : List ℕ → Bool
-is_thin_head b =
-    nat_le 84 (length b)
-    && starts_with nat_eq b (0x7F ∷ 0x45 ∷ 0x4C ∷ 0x46 ∷ 1 ∷ 1 ∷ 1 ∷ [])
-    && half_at b 16 == 2
-    && half_at b 18 == 3
-    && word_at b 20 == 1
-    && word_at b 28 == 52
-    && half_at b 40 == 52
-    && half_at b 42 == 32
-    && half_at b 44 == 1
-
--- the one form of file that is rewritten yet: one program header, behind the ELF header, that maps code
-abbrev pub is_thin : List ℕ → Bool
-is_thin b = is_thin_head b && is_thin_header (length b) (header_at b 52)

@@ -8,5 +8,4 @@ pub mod Segments
 pub mod Loaded
 pub mod Limits
 pub mod Joining
-pub mod Thin
 pub mod RunCount
