@@ -1,4 +1,5 @@
--- The faults of a file, one statement each about the whole file, and the first of them. ELF32; the order is this project's own.
+-- The faults of a file, one statement each about the whole file, and the first of them. ELF32; the order is this
+-- project's own.
 use Rattle.std.specs.Prelude.{ℕ, ◌+◌, ◌*◌, ◌/◌, ◌%◌, Bool, not, ◌&&◌, ◌||◌, List, [], ◌∷◌, length, Option, Some, None, nat_lt, ◌==◌, if◌then◌else◌, slice_index}
 use Rattle.std.specs.List.{list_any, starts_with, sum_by}
 use Rattle.std.specs.Prelude.{nat_eq}

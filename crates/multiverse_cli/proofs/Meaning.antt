@@ -1,17 +1,16 @@
 -- From what was tried and what was reported, to what the answer means.
-use Rattle.std.proofs.Common.{◌≡◌, ℕ, ◌⊎◌, List, [], Option, Some, None, Result, Ok, Err, IsSomeAnd, Vec, Global, sym, ◌∙◌, ap, subst, inl, inr, append-nil}
+use Rattle.std.proofs.Common.{◌≡◌, ℕ, ◌⊎◌, List, [], Option, Some, None, Result, Ok, Err, IsSomeAnd, IsTrue, Vec, Global, sym, ◌∙◌, ap, subst, inl, inr, append-nil}
 use Rattle.mv_base.specs.Holding.{KeepsOrBegins}
 use Rattle.mv_base.specs.declared.status.Status.{Status}
 use Rattle.mv_base.specs.declared.status.Status.TheVariants.{Done, Usage, ReadFault, WriteFault, BadImage, NoRoom, BadLog, NoMemory, SinkFault, TooLarge}
-use Rattle.elf32_read.specs.declared.fault.ImageFault.{ImageFault}
 use Rattle.multiverse_cli.specs.declared.failure.Failure.{Failure}
 use Rattle.multiverse_cli.specs.declared.failure.Failure.TheVariants as failure
 use Rattle.multiverse_cli.specs.declared.refusal.Refusal.{Refusal}
 use Rattle.multiverse_cli.specs.declared.refusal.Refusal.TheVariants as refusal
-use Rattle.multiverse_cli.specs.Answers.{IsRewritable, InputIs, input_of, output_of, WritesOutput, BeginsOutput, IsInput, text_of, Comes, ComesAt, ComesWithout, Leaves, LeavesAt, Prints, PrintsAt, PrintsWithout, IsCutOff, OfMemory, OfRead, OfSize, OfImage, OfWrite, OfDone, Delivers}
+use Rattle.multiverse_cli.specs.Answers.{IsRewritable, InputIs, input_of, output_of, WritesOutput, BeginsOutput, IsInput, text_of, Comes, ComesAt, ComesWithout, Leaves, LeavesAt, Prints, PrintsAt, PrintsWithout, IsCutOff, OfMemory, OfRead, OfSize, OfImage, OfRoom, OfWrite, OfDone, Delivers}
 use Rattle.multiverse_cli.specs.Outside.{Stored, Printed, Held, Says, SaysPart}
 use Rattle.multiverse_cli.specs.Steps.{Attempts, IsCarriedOut, PrintsText, PrintsRefusal, Refuses, Reports}
-use Rattle.multiverse_cli.specs.Texts.{status_of, message_of, memory_message, read_message, size_message, image_message, write_message}
+use Rattle.multiverse_cli.specs.Texts.{status_of, message_of, memory_message, read_message, size_message, write_message}
 use Rattle.multiverse_cli.specs.Words.{Asked}
 
 -- what is known of the bytes that the input held is known of the input
@@ -46,7 +45,8 @@ pub comes-why : (why : Refusal) (a : Asked) (s : Stored) (k : Printed) → Refus
 comes-why refusal.Usage a s k h = h
 comes-why (refusal.ReadFault name) a s k h = h.1
 comes-why (refusal.TooLarge name) a s k h = h.1
-comes-why (refusal.BadImage fault) a s k h = h.1
+comes-why (refusal.BadImage fault) a s k h = (fault, h.0)
+comes-why (refusal.NoRoom size) a s k h = (size, h.0)
 comes-why (refusal.WriteFault name) a s k h = (h.1, begun-input a s h.2)
 
 comes-refused :
@@ -108,7 +108,8 @@ pub leaves-why : (why : Refusal) (a : Asked) (s : Stored) → Refuses why a s �
 leaves-why refusal.Usage a s h = absurd h
 leaves-why (refusal.ReadFault name) a s h = h.2
 leaves-why (refusal.TooLarge name) a s h = h.2
-leaves-why (refusal.BadImage fault) a s h = h.2
+leaves-why (refusal.BadImage fault) a s h = h.1
+leaves-why (refusal.NoRoom size) a s h = h.1
 leaves-why (refusal.WriteFault name) a s h = h.2
 
 -- a refusal leaves what want of memory may leave
@@ -116,7 +117,8 @@ pub leaves-starved : (why : Refusal) (a : Asked) (s : Stored) → Refuses why a 
 leaves-starved refusal.Usage a s h = absurd h
 leaves-starved (refusal.ReadFault name) a s h = inl h.2
 leaves-starved (refusal.TooLarge name) a s h = inl h.2
-leaves-starved (refusal.BadImage fault) a s h = inl h.2
+leaves-starved (refusal.BadImage fault) a s h = inl h.1
+leaves-starved (refusal.NoRoom size) a s h = inl h.1
 leaves-starved (refusal.WriteFault name) a s h = inr h.2
 
 leaves-refused :
@@ -167,8 +169,8 @@ says-why (refusal.ReadFault name) a s k h said =
     let P : List ℕ → Type 0 = λ n. Says k (read_message n) in subst P h.0 said
 says-why (refusal.TooLarge name) a s k h said =
     let P : List ℕ → Type 0 = λ n. Says k (size_message n) in subst P h.0 said
-says-why (refusal.BadImage fault) a s k h said =
-    let P : ImageFault → Type 0 = λ f. Says k (image_message f) in subst P h.0 said
+says-why (refusal.BadImage fault) a s k h said = (fault, h.0, said)
+says-why (refusal.NoRoom size) a s k h said = (size, h.0, said)
 says-why (refusal.WriteFault name) a s k h said =
     let P : List ℕ → Type 0 = λ n. Says k (write_message n) in subst P h.0 said
 
@@ -179,8 +181,8 @@ cut-off (refusal.ReadFault name) a s h =
     let P : List ℕ → Type 0 = λ n. IsCutOff a s (read_message n) in subst P (sym h.0) (OfRead h.1)
 cut-off (refusal.TooLarge name) a s h =
     let P : List ℕ → Type 0 = λ n. IsCutOff a s (size_message n) in subst P (sym h.0) (OfSize h.1)
-cut-off (refusal.BadImage fault) a s h =
-    let P : ImageFault → Type 0 = λ f. IsCutOff a s (image_message f) in subst P (sym h.0) (OfImage h.1)
+cut-off (refusal.BadImage fault) a s h = OfImage fault h.0
+cut-off (refusal.NoRoom size) a s h = OfRoom size h.0
 cut-off (refusal.WriteFault name) a s h =
     let P : List ℕ → Type 0 = λ n. IsCutOff a s (write_message n) in subst P (sym h.0) (OfWrite h.1)
 
@@ -248,6 +250,7 @@ delivers-why refusal.Usage asked s k = tt
 delivers-why (refusal.ReadFault name) asked s k = tt
 delivers-why (refusal.TooLarge name) asked s k = tt
 delivers-why (refusal.BadImage fault) asked s k = tt
+delivers-why (refusal.NoRoom size) asked s k = tt
 delivers-why (refusal.WriteFault name) asked s k = tt
 
 delivers-refused :

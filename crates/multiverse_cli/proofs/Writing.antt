@@ -1,5 +1,5 @@
 -- From what a write of the output did, to what the command did.
-use Rattle.std.proofs.Common.{◌≡◌, ℕ, ◌≤◌, length, List, Option, Some, Result, Ok, Err, IsErrAnd, Vec, Global, sym, ◌∙◌, ap, subst, inr}
+use Rattle.std.proofs.Common.{◌≡◌, ℕ, ◌≤◌, length, List, Option, Some, is_some, Result, Ok, Err, IsErrAnd, Vec, Global, sym, ◌∙◌, ap, subst, inr}
 use Rattle.std.specs.Prelude.{unwrap_or}
 use Rattle.mv_base.specs.Holding.{KeepsOrBegins}
 use Rattle.mv_base.specs.Faults.{Rose}
@@ -71,6 +71,7 @@ fails-whole (failure.Refused refusal.Usage) a w s b x last held rewrites h other
 fails-whole (failure.Refused (refusal.ReadFault n)) a w s b x last held rewrites h others = absurd h.0
 fails-whole (failure.Refused (refusal.TooLarge n)) a w s b x last held rewrites h others = absurd h.0
 fails-whole (failure.Refused (refusal.BadImage fault)) a w s b x last held rewrites h others = absurd h.0
+fails-whole (failure.Refused (refusal.NoRoom size)) a w s b x last held rewrites h others = absurd h.0
 fails-whole (failure.Refused (refusal.WriteFault n)) a w s b x last held rewrites h others =
     (h.0.0, fault-whole w s (output_of a) last h.0.1, begins-whole a w s b x last held rewrites h.1 others)
 
@@ -107,7 +108,7 @@ pub rewrites-to :
 rewrites-to b x r fits e is simulates =
     let P : List ℕ → Type 0 = λ l. Simulates b l in
     record {
-      rewritable = record { fits = fits; sound = is.thin };
+      rewritable = record { fits = fits; sound = is.whole; room = ap is_some is.added_lo };
       output_is = is.bytes ∙ ap Some (sym e);
       simulates = subst P (sym e) simulates;
     }

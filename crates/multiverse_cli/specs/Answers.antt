@@ -1,16 +1,16 @@
 -- What an answer of the program means. This project's own.
-use Rattle.std.specs.Prelude.{◌≡◌, ℕ, ◌<◌, ◌≤◌, ◌⊎◌, true, false, IsTrue, List, length, Option, Some, None, IsSomeAnd, unwrap_or}
+use Rattle.std.specs.Prelude.{◌≡◌, ℕ, ◌<◌, ◌≤◌, ◌⊎◌, IsTrue, List, length, Option, Some, None, IsSome, IsSomeAnd, unwrap_or}
 use Rattle.mv_base.specs.Holding.{KeepsOrBegins}
 use Rattle.mv_base.specs.declared.status.Status.{Status}
 use Rattle.mv_base.specs.declared.status.Status.TheVariants.{Done, Usage, ReadFault, WriteFault, BadImage, NoRoom, BadLog, NoMemory, SinkFault, TooLarge}
-use Rattle.elf32_read.specs.declared.fault.ImageFault.TheVariants.{NotYet}
-use Rattle.elf32_read.specs.Faults.{is_thin}
+use Rattle.elf32_read.specs.declared.fault.ImageFault.{ImageFault}
+use Rattle.elf32_read.specs.Faults.{refusal}
 use Rattle.mv_rewrite.specs.Sites.{sites}
 use Rattle.mv_rewrite.specs.Layout.{base_of, size}
 use Rattle.mv_rewrite.specs.Output.{output}
 use Rattle.mv_rewrite.specs.Stopping.{Simulates}
 use Rattle.multiverse_cli.specs.Outside.{Stored, Printed, IsReadFault, IsWriteFault, IsSinkFault, KeepsAll, KeepsOthers, Held, Holds, SaysAll, SaysPart, Says}
-use Rattle.multiverse_cli.specs.Texts.{rewritten_text, usage_message, read_message, size_message, image_message, write_message, memory_message}
+use Rattle.multiverse_cli.specs.Texts.{rewritten_text, usage_message, read_message, size_message, image_message, room_message, write_message, memory_message}
 use Rattle.multiverse_cli.specs.Words.{Asked, ToRewrite}
 
 -- ---- files
@@ -23,15 +23,23 @@ size_limit = 67108864
 abbrev pub IsOversized : List ℕ → Type 0
 IsOversized b = size_limit < length b
 
--- a file that is read and whose image has a fault; the one fault yet is that it isn't of the one form
-pub record IsFaulty (b : List ℕ) : Type 0 where
+-- a file that is read and whose first fault is this one
+pub record IsFaulty (b : List ℕ) (fault : ImageFault) : Type 0 where
   pub fits : length b ≤ size_limit
-  pub faulty : is_thin b ≡ false
+  pub faulty : refusal b ≡ Some fault
 
--- a file that is rewritten
+-- a file that is read and has no fault, and whose addresses have no room for its block, which has this size
+pub record LacksRoom (b : List ℕ) (n : ℕ) : Type 0 where
+  pub fits : length b ≤ size_limit
+  pub sound : refusal b ≡ None
+  pub no_room : base_of b ≡ None
+  pub size_is : n ≡ size b
+
+-- a file that is rewritten: it is read, has no fault, and its addresses have room
 pub record IsRewritable (b : List ℕ) : Type 0 where
   pub fits : length b ≤ size_limit
-  pub sound : is_thin b ≡ true
+  pub sound : refusal b ≡ None
+  pub room : IsSome (base_of b)
 
 -- a file that is rewritten, and its one output, which simulates it: while the file completes steps that are clear of
 -- the added addresses and of changes to its code, the output passes in order through a state that agrees after each
@@ -59,6 +67,14 @@ output_of (ToRewrite input output) = output
 abbrev pub InputIs : Asked → Stored → (List ℕ → Type 0) → Type 0
 InputIs a s fact = IsTrue s.tells → IsSomeAnd (s.before (input_of a)) fact
 
+-- where the store tells, the first fault of the command's input is this one
+abbrev pub IsFaultyInput : Asked → Stored → ImageFault → Type 0
+IsFaultyInput a s fault = InputIs a s (λ b. IsFaulty b fault)
+
+-- where the store tells, the command's input lacks room for its block, which has this size
+abbrev pub LacksRoomInput : Asked → Stored → ℕ → Type 0
+LacksRoomInput a s n = InputIs a s (λ b. LacksRoom b n)
+
 -- ---- when an answer comes
 
 -- without a command: Usage, or want of memory
@@ -80,9 +96,9 @@ ComesAt Done a s k = InputIs a s IsRewritable
 ComesAt Usage a s k = ⊥
 ComesAt ReadFault a s k = IsReadFault s (input_of a)
 ComesAt TooLarge a s k = InputIs a s IsOversized
-ComesAt BadImage a s k = InputIs a s IsFaulty
+ComesAt BadImage a s k = (fault : ImageFault) × IsFaultyInput a s fault
 ComesAt BadLog a s k = ⊥
-ComesAt NoRoom a s k = ⊥
+ComesAt NoRoom a s k = (n : ℕ) × LacksRoomInput a s n
 ComesAt WriteFault a s k = IsWriteFault s (output_of a) × InputIs a s IsRewritable
 ComesAt SinkFault a s k = IsSinkFault k × InputIs a s IsRewritable
 ComesAt NoMemory a s k = Unit {0}
@@ -105,7 +121,12 @@ pub record IsDue (status : Status) (a : Asked) (s : Stored) (k : Printed) : Type
       IsSomeAnd (s.before (input_of a)) IsOversized → ¬ IsReadFault s (input_of a) → IsUnlessMemory status TooLarge
   -- an image with a fault is refused
   pub faulty :
-      IsSomeAnd (s.before (input_of a)) IsFaulty → ¬ IsReadFault s (input_of a) → IsUnlessMemory status BadImage
+      (fault : ImageFault) → IsSomeAnd (s.before (input_of a)) (λ b. IsFaulty b fault)
+      → ¬ IsReadFault s (input_of a) → IsUnlessMemory status BadImage
+  -- an image without room for its block is refused
+  pub no_room :
+      (n : ℕ) → IsSomeAnd (s.before (input_of a)) (λ b. LacksRoom b n)
+      → ¬ IsReadFault s (input_of a) → IsUnlessMemory status NoRoom
   -- every other file is rewritten, where nothing outside fails
   pub complete :
       IsSomeAnd (s.before (input_of a)) IsRewritable
@@ -166,7 +187,8 @@ pub data IsCutOff (a : Asked) (s : Stored) : List ℕ → Type 0 where
   OfMemory : IsCutOff a s memory_message
   OfRead : IsReadFault s (input_of a) → IsCutOff a s (read_message (input_of a))
   OfSize : InputIs a s IsOversized → IsCutOff a s (size_message (input_of a))
-  OfImage : InputIs a s IsFaulty → IsCutOff a s (image_message NotYet)
+  OfImage : (fault : ImageFault) → IsFaultyInput a s fault → IsCutOff a s (image_message fault)
+  OfRoom : (n : ℕ) → LacksRoomInput a s n → IsCutOff a s (room_message n)
   OfWrite : IsWriteFault s (output_of a) → IsCutOff a s (write_message (output_of a))
   OfDone : (b : List ℕ) → IsInput a s b → IsCutOff a s (text_of b)
 
@@ -189,9 +211,9 @@ PrintsAt Done a s k = (b : List ℕ) × IsInput a s b × SaysAll k (text_of b)
 PrintsAt Usage a s k = ⊥
 PrintsAt ReadFault a s k = Says k (read_message (input_of a))
 PrintsAt TooLarge a s k = Says k (size_message (input_of a))
-PrintsAt BadImage a s k = Says k (image_message NotYet)
+PrintsAt BadImage a s k = (fault : ImageFault) × IsFaultyInput a s fault × Says k (image_message fault)
 PrintsAt BadLog a s k = ⊥
-PrintsAt NoRoom a s k = ⊥
+PrintsAt NoRoom a s k = (n : ℕ) × LacksRoomInput a s n × Says k (room_message n)
 PrintsAt WriteFault a s k = Says k (write_message (output_of a))
 PrintsAt SinkFault a s k = (b : List ℕ) × IsInput a s b × SaysPart k (text_of b)
 PrintsAt NoMemory a s k = (text : List ℕ) × IsCutOff a s text × SaysPart k text

@@ -4,4 +4,5 @@ pub mod Failures
 pub mod Outside
 pub mod Steps
 pub mod Texts
+pub mod Wordless
 pub mod Words

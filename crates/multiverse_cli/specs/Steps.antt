@@ -4,7 +4,6 @@ use Rattle.std.specs.declared.alloc.Global.{Global}
 use Rattle.mv_base.specs.Holding.{KeepsOrBegins}
 use Rattle.mv_base.specs.declared.status.Status.{Status}
 use Rattle.mv_base.specs.declared.status.Status.TheVariants as status
-use Rattle.elf32_read.specs.declared.fault.ImageFault.TheVariants.{NotYet}
 use Rattle.multiverse_cli.specs.declared.refusal.Refusal.{Refusal}
 use Rattle.multiverse_cli.specs.declared.refusal.Refusal.TheVariants as refusal
 use Rattle.multiverse_cli.specs.declared.failure.Failure.{Failure}
@@ -12,14 +11,15 @@ use Rattle.multiverse_cli.specs.declared.failure.Failure.TheVariants as failure
 use Rattle.multiverse_cli.specs.Outside.{Stored, Printed, IsReadFault, IsWriteFault, IsSinkFault, KeepsAll, Held, Holds, SaysAll, SaysPart, Says}
 use Rattle.multiverse_cli.specs.Words.{Asked}
 use Rattle.multiverse_cli.specs.Texts.{message_of, memory_message, status_of}
-use Rattle.multiverse_cli.specs.Answers.{size_limit, IsOversized, IsFaulty, InputIs, input_of, output_of, WritesOutput, BeginsOutput, text_of}
+use Rattle.multiverse_cli.specs.Answers.{size_limit, IsOversized, InputIs, IsFaultyInput, LacksRoomInput, input_of, output_of, WritesOutput, BeginsOutput, text_of}
 
 -- a command was refused, for a reason that the store shows
 abbrev pub Refuses : Refusal → Asked → Stored → Type 0
 Refuses refusal.Usage a s = ⊥
 Refuses (refusal.ReadFault name) a s = (name.now ≡ input_of a) × IsReadFault s (input_of a) × KeepsAll s
 Refuses (refusal.TooLarge name) a s = (name.now ≡ input_of a) × InputIs a s IsOversized × KeepsAll s
-Refuses (refusal.BadImage fault) a s = (fault ≡ NotYet) × InputIs a s IsFaulty × KeepsAll s
+Refuses (refusal.BadImage fault) a s = IsFaultyInput a s fault × KeepsAll s
+Refuses (refusal.NoRoom n) a s = LacksRoomInput a s n × KeepsAll s
 Refuses (refusal.WriteFault name) a s = (name.now ≡ output_of a) × IsWriteFault s (output_of a) × BeginsOutput a s
 
 -- a command wrote its output, and has this text to print
@@ -83,6 +83,7 @@ IsUnread refusal.Usage name s = ⊥
 IsUnread (refusal.ReadFault n) name s = (n.now ≡ name) × IsReadFault s name
 IsUnread (refusal.TooLarge n) name s = (n.now ≡ name) × (IsTrue s.tells → IsSomeAnd (s.before name) IsOversized)
 IsUnread (refusal.BadImage fault) name s = ⊥
+IsUnread (refusal.NoRoom size) name s = ⊥
 IsUnread (refusal.WriteFault n) name s = ⊥
 
 -- a file was read whole, or why not
@@ -97,6 +98,7 @@ IsUnwritten refusal.Usage name s = ⊥
 IsUnwritten (refusal.ReadFault n) name s = ⊥
 IsUnwritten (refusal.TooLarge n) name s = ⊥
 IsUnwritten (refusal.BadImage fault) name s = ⊥
+IsUnwritten (refusal.NoRoom size) name s = ⊥
 IsUnwritten (refusal.WriteFault n) name s = (n.now ≡ name) × IsWriteFault s name
 
 -- where the store tells, a name holds what it held, or a part of the bytes

@@ -4,7 +4,7 @@ use Rattle.mv_base.specs.Text.{hex8}
 use Rattle.mv_base.specs.declared.status.Status.{Status}
 use Rattle.mv_base.specs.declared.status.Status.TheVariants as status
 use Rattle.elf32_read.specs.declared.fault.ImageFault.{ImageFault}
-use Rattle.elf32_read.specs.declared.fault.ImageFault.TheVariants.{ShortHeader, NotElf, NotElf32Little, NotI386, NotExecutable, BadVersion, BadSizes, HeaderCount, HeadersOutside, Interpreter, Dynamic, FileRange, MemorySmaller, AddressRange, NoPermission, WritableCode, NotCongruent, SharedPage, NoLoad, CodeTooLarge, HeadersFull, NotYet}
+use Rattle.elf32_read.specs.declared.fault.ImageFault.TheVariants.{ShortHeader, NotElf, NotElf32Little, NotI386, NotExecutable, BadVersion, BadSizes, HeaderCount, HeadersOutside, Interpreter, Dynamic, FileRange, MemorySmaller, AddressRange, NoPermission, WritableCode, NotCongruent, SharedPage, NoLoad, CodeTooLarge, HeadersFull}
 use Rattle.multiverse_cli.specs.declared.refusal.Refusal.{Refusal}
 use Rattle.multiverse_cli.specs.declared.refusal.Refusal.TheVariants as refusal
 
@@ -47,7 +47,6 @@ fault_name (SharedPage i) = codes "SharedPage"
 fault_name NoLoad = codes "NoLoad"
 fault_name CodeTooLarge = codes "CodeTooLarge"
 fault_name HeadersFull = codes "HeadersFull"
-fault_name NotYet = codes "NotYet"
 
 -- the number of a program header, as it follows a fault's name
 abbrev pub header_text : ℕ → List ℕ
@@ -76,7 +75,6 @@ fault_place (SharedPage i) = header_text i
 fault_place NoLoad = []
 fault_place CodeTooLarge = []
 fault_place HeadersFull = []
-fault_place NotYet = []
 
 -- the message that the words are no command
 abbrev pub usage_message : List ℕ
@@ -94,6 +92,10 @@ size_message name = line (codes "multiverse: too large: " ++ name ++ codes " abo
 abbrev pub image_message : ImageFault → List ℕ
 image_message fault = line (codes "multiverse: bad image: " ++ fault_name fault ++ fault_place fault)
 
+-- the message that no place has room for a block of this size
+abbrev pub room_message : ℕ → List ℕ
+room_message size = line (codes "multiverse: no room: " ++ decimal size)
+
 -- the message that a file cannot be written
 abbrev pub write_message : List ℕ → List ℕ
 write_message name = line (codes "multiverse: cannot write " ++ name)
@@ -108,6 +110,7 @@ message_of refusal.Usage = usage_message
 message_of (refusal.ReadFault name) = read_message name.now
 message_of (refusal.TooLarge name) = size_message name.now
 message_of (refusal.BadImage fault) = image_message fault
+message_of (refusal.NoRoom size) = room_message size
 message_of (refusal.WriteFault name) = write_message name.now
 
 -- the answer that a refusal is
@@ -116,4 +119,5 @@ status_of refusal.Usage = status.Usage
 status_of (refusal.ReadFault name) = status.ReadFault
 status_of (refusal.TooLarge name) = status.TooLarge
 status_of (refusal.BadImage fault) = status.BadImage
+status_of (refusal.NoRoom size) = status.NoRoom
 status_of (refusal.WriteFault name) = status.WriteFault

@@ -33,6 +33,7 @@ impl From<RewriteFault> for Failure<'_> {
     fn from(fault: RewriteFault) -> Self {
         match fault {
             RewriteFault::Image(fault) => Failure::Refused(Refusal::BadImage(fault)),
+            RewriteFault::NoRoom(size) => Failure::Refused(Refusal::NoRoom(size)),
             RewriteFault::NoMemory => Failure::NoMemory,
         }
     }

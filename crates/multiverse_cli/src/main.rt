@@ -10,6 +10,9 @@
 //! `main` runs this over the files of the system and standard output, and ends with the answer's number.
 #![tactic(auto)]
 
+ghost use Rattle.std.specs.Prelude.{◌≡◌};
+ghost use Rattle.multiverse_cli.specs.Wordless.{wordless_code as wordless_code_of};
+
 mod carry;
 mod failure;
 mod refusal;
@@ -22,7 +25,7 @@ mod words;
 
 use mv_base::{FileStore, Status, StdSink};
 use std::env;
-use std::io::{self, Error, ErrorKind};
+use std::io::{self, ErrorKind};
 use std::process::ExitCode;
 use std::rt::Env;
 
@@ -37,7 +40,7 @@ fn main(rt: HostRuntime) -> ExitCode {
             let status = run::run(rt.alloc(), words.as_slice(), &mut store, &mut out);
             ExitCode::from(status.code())
         }
-        Err(error) => ExitCode::from(wordless_code(&error)),
+        Err(error) => ExitCode::from(wordless_code(error.kind())),
     }
 }
 
@@ -48,8 +51,10 @@ fn words_after_name<R: Env + AllocGlobal>(rt: &R) -> io::Result<Vec<String>> {
 }
 
 /// The number with which the program ends where it gets no words.
-fn wordless_code(error: &Error) -> u8 {
-    match error.kind() {
+fn wordless_code(kind: ErrorKind) -> u8
+    ensures { result ≡ wordless_code_of kind }
+{
+    match kind {
         ErrorKind::InvalidData => NOT_TEXT,
         _ => Status::NoMemory.code(),
     }

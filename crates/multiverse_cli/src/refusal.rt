@@ -16,8 +16,10 @@ pub enum Refusal<'a> {
     ReadFault(&'a str),
     /// The file has more bytes than the limit.
     TooLarge(&'a str),
-    /// The image has a fault.
+    /// The image has this fault.
     BadImage(ImageFault),
+    /// The image's addresses have no room for the added block, which has this many bytes.
+    NoRoom(u64),
     /// The file could not be written.
     WriteFault(&'a str),
 }
@@ -32,6 +34,7 @@ impl Refusal<'_> {
             Refusal::ReadFault(_) => Status::ReadFault,
             Refusal::TooLarge(_) => Status::TooLarge,
             Refusal::BadImage(_) => Status::BadImage,
+            Refusal::NoRoom(_) => Status::NoRoom,
             Refusal::WriteFault(_) => Status::WriteFault,
         }
     }

@@ -12,8 +12,8 @@ use std::alloc::Global;
 /// Does what the words after the program's name ask for, over the files of `store`, prints to `out`, and gives the
 /// answer.
 ///
-/// The answers are looked for in the order Usage, ReadFault, TooLarge, BadImage, WriteFault, SinkFault, Done; NoMemory
-/// may come at any place. The clauses say when each comes, which one has to come, and what it leaves behind.
+/// The answers are looked for in the order Usage, ReadFault, TooLarge, BadImage, NoRoom, WriteFault, SinkFault, Done;
+/// NoMemory may come at any place. The clauses say when each comes, which one has to come, and what it leaves behind.
 pub fn run<S: Store, K: Sink>(alloc: Global, words: &[String], store: &mut S, out: &mut K) -> Status
     // When an answer may come: a fault of the outside only where its count rose in this call, any other only where the
     // words or the input's bytes are so.

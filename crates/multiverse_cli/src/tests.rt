@@ -1,4 +1,4 @@
-//! What no clause says: that memory suffices, the worked example byte by byte, and a table of refusals.
+//! What no clause says: that memory suffices, the worked example byte by byte, a table of refusals, and one of images.
 
 use crate::run::run;
 use mv_base::{MemSink, MemStore, Status};
@@ -154,7 +154,7 @@ fn refusals_say_why_and_change_nothing(rt: HostRuntime) -> Result<(), Fail> {
             words: &["rewrite", "a", "b"],
             a: b"no image",
             status: Status::BadImage,
-            printed: "multiverse: bad image: NotYet\n",
+            printed: "multiverse: bad image: ShortHeader\n",
             ..usage(&[])
         },
     ];
@@ -213,5 +213,219 @@ fn output_that_fails_is_old_or_whole(rt: HostRuntime) -> Result<(), Fail> {
     assert_eq!(rt; status, Status::SinkFault);
     assert_eq!(rt; out.bytes(), b"".as_slice());
     assert!(rt; is_output(&store, "b"));
+    Ok(())
+}
+
+/// A program header, whose two addresses are one.
+#[derive(Clone, Copy)]
+struct Header {
+    kind: u32,
+    offset: u32,
+    vaddr: u32,
+    filesz: u32,
+    memsz: u32,
+    flags: u32,
+}
+
+/// Maps the code behind two headers.
+const CODE_AT_TWO: Header = Header {
+    kind: 1,
+    offset: 0x74,
+    vaddr: 0x0804_8074,
+    filesz: 12,
+    memsz: 12,
+    flags: 5,
+};
+
+/// Names an interpreter.
+const INTERPRETER: Header = Header {
+    kind: 3,
+    ..CODE_AT_TWO
+};
+
+/// Maps a page of zeros that may be written, two pages above the lowest address of an added block.
+const ZEROS: Header = Header {
+    kind: 1,
+    offset: 0,
+    vaddr: 0x0010_2000,
+    filesz: 0,
+    memsz: 0x1000,
+    flags: 6,
+};
+
+/// Maps zeros at each address that an added block may have.
+const ZEROS_EVERYWHERE: Header = Header {
+    vaddr: 0x0010_0000,
+    memsz: 0xaff0_0000,
+    ..ZEROS
+};
+
+/// An image with so many headers, these first and then empty ones, with the code of `IMAGE` behind them.
+fn image_of(alloc: Global, headers: &[Header], count: u16) -> Result<Vec<u8>, Fail> {
+    let mut bytes = IMAGE[..44].to_vec(alloc)?;
+    bytes.extend_from_slice(&count.to_le_bytes())?;
+    bytes.extend_from_slice(&IMAGE[46..52])?;
+    for header in headers {
+        let Header {
+            kind,
+            offset,
+            vaddr,
+            filesz,
+            memsz,
+            flags,
+        } = *header;
+        for field in [kind, offset, vaddr, vaddr, filesz, memsz, flags, 0x1000] {
+            bytes.extend_from_slice(&field.to_le_bytes())?;
+        }
+    }
+    bytes.resize(52 + 32 * usize::from(count), 0)?;
+    bytes.extend_from_slice(&IMAGE[84..])?;
+    Ok(bytes)
+}
+
+/// An image with so many headers, these first, of which so many bytes are kept, and what a rewrite of it gives: the
+/// answer, the text, and how many bytes OUT, which held 3, has then.
+#[derive(Clone, Copy)]
+struct Row {
+    headers: &'static [Header],
+    count: u16,
+    kept: usize,
+    status: Status,
+    printed: &'static str,
+    output: usize,
+}
+
+/// A row whose image, of these two headers, has the fault.
+const fn bad(headers: &'static [Header], printed: &'static str) -> Row {
+    Row {
+        headers,
+        count: 2,
+        kept: FILE_LIMIT,
+        status: Status::BadImage,
+        printed,
+        output: 3,
+    }
+}
+
+/// A row whose image, of these two headers, is rewritten.
+const fn done(headers: &'static [Header], printed: &'static str, output: usize) -> Row {
+    Row {
+        status: Status::Done,
+        output,
+        ..bad(headers, printed)
+    }
+}
+
+fn check_row(rt: &(impl AllocGlobal + Abort), words: &[String], row: &Row) -> Result<(), Fail> {
+    let alloc = rt.alloc();
+    let mut image = image_of(alloc, row.headers, row.count)?;
+    image.truncate(row.kept);
+    let mut store = store_of(alloc, image.as_slice(), 0, 0)?;
+    let mut out = MemSink::new(alloc, Vec::new(alloc))?;
+    let status = run(alloc, words, &mut store, &mut out);
+    assert_eq!(rt; status, row.status, "{}", row.printed);
+    assert_eq!(rt; out.bytes(), row.printed.as_bytes(), "{}", row.printed);
+    assert!(rt; is_held(&store, "a", image.as_slice()));
+    assert!(rt; status == Status::Done || is_held(&store, "b", b"old"));
+    assert_eq!(rt;
+        store.file("b").map(|held| held.len()),
+        Some(row.output),
+        "{}",
+        row.printed
+    );
+    Ok(())
+}
+
+/// Maps the code behind one header, at the address that `IMAGE` has, but doesn't let it run.
+const DATA_AT_ONE: Header = Header {
+    offset: 0x54,
+    vaddr: 0x0804_8054,
+    flags: 4,
+    ..CODE_AT_TWO
+};
+
+/// Maps the code writable and executable.
+const WRITABLE_CODE: Header = Header {
+    flags: 7,
+    ..CODE_AT_TWO
+};
+
+/// Maps one byte of code more than is rewritten.
+const LARGE_CODE: Header = Header {
+    memsz: 0x0040_0001,
+    ..CODE_AT_TWO
+};
+
+/// Maps the code a second time, two pages above.
+const CODE_AGAIN: Header = Header {
+    vaddr: 0x0804_a074,
+    ..CODE_AT_TWO
+};
+
+/// Maps the code at the first address above those of an added block.
+const CODE_ABOVE: Header = Header {
+    vaddr: 0xb000_0074,
+    ..CODE_AT_TWO
+};
+
+#[test]
+fn images_are_rewritten_or_refused(rt: HostRuntime) -> Result<(), Fail> {
+    let rows = [
+        bad(
+            &[WRITABLE_CODE, INTERPRETER],
+            "multiverse: bad image: WritableCode header 0\n",
+        ),
+        bad(
+            &[INTERPRETER, WRITABLE_CODE],
+            "multiverse: bad image: Interpreter header 0\n",
+        ),
+        bad(&[LARGE_CODE], "multiverse: bad image: CodeTooLarge\n"),
+        Row {
+            count: 62,
+            ..bad(&[CODE_AT_TWO], "multiverse: bad image: HeadersFull\n")
+        },
+        Row {
+            count: 65,
+            ..bad(&[CODE_AT_TWO], "multiverse: bad image: HeaderCount\n")
+        },
+        Row {
+            kept: 0,
+            ..bad(&[CODE_AT_TWO], "multiverse: bad image: ShortHeader\n")
+        },
+        Row {
+            count: 1,
+            kept: 60,
+            ..bad(&[CODE_AT_TWO], "multiverse: bad image: HeadersOutside\n")
+        },
+        Row {
+            status: Status::NoRoom,
+            ..bad(
+                &[ZEROS_EVERYWHERE, CODE_ABOVE],
+                "multiverse: no room: 12288\n",
+            )
+        },
+        done(
+            &[ZEROS, CODE_AT_TWO],
+            "sites 3\nadded 00103000 00003000\ncounters 0\n",
+            16_384,
+        ),
+        done(
+            &[CODE_AT_TWO, CODE_AGAIN],
+            "sites 6\nadded 00100000 00003000\ncounters 0\n",
+            16_384,
+        ),
+        Row {
+            count: 1,
+            ..done(
+                &[DATA_AT_ONE],
+                "sites 0\nadded 00100000 00001000\ncounters 0\n",
+                8_192,
+            )
+        },
+    ];
+    let words = strings(rt.alloc(), &["rewrite", "a", "b"])?;
+    for row in &rows {
+        check_row(&rt, words.as_slice(), row)?;
+    }
     Ok(())
 }

@@ -1,7 +1,7 @@
 //! The texts that the program prints. They are this project's own; each line ends with a line feed.
 
 ghost use Rattle.std.specs.Prelude.{◌≡◌, ◌++◌, IfOk, OnOk, codes};
-ghost use Rattle.multiverse_cli.specs.Texts.{added_line, count_line, fault_name as fault_name_of, fault_place, image_message, line, memory_message, message_of, rewritten_text as rewritten_text_of};
+ghost use Rattle.multiverse_cli.specs.Texts.{added_line, count_line, fault_name as fault_name_of, fault_place, image_message, line, memory_message, message_of, rewritten_text as rewritten_text_of, room_message};
 
 use crate::refusal::Refusal;
 use elf32_read::ImageFault;
@@ -62,6 +62,7 @@ pub fn message(alloc: Global, refusal: &Refusal<'_>) -> Result<Vec<u8>, NoMemory
             name_line(alloc, "multiverse: too large: ", name, " above 67108864")
         }
         Refusal::BadImage(fault) => fault_line(alloc, fault),
+        Refusal::NoRoom(size) => room_line(alloc, *size),
         Refusal::WriteFault(name) => name_line(alloc, "multiverse: cannot write ", name, ""),
     }
 }
@@ -86,6 +87,17 @@ fn fault_line(alloc: Global, fault: &ImageFault) -> Result<Vec<u8>, NoMemory>
     text.extend_from_slice(b"multiverse: bad image: ")?;
     text.extend_from_slice(fault_name(fault).as_bytes())?;
     put_place(fault, &mut text)?;
+    text.push(b'\n')?;
+    Ok(text)
+}
+
+/// The line that no place has room for a block of this many bytes.
+fn room_line(alloc: Global, size: u64) -> Result<Vec<u8>, NoMemory>
+    ensures { IfOk result (λ text. text.items ≡ room_message size) }
+{
+    let mut text = Vec::new(alloc);
+    text.extend_from_slice(b"multiverse: no room: ")?;
+    put_decimal(size, &mut text)?;
     text.push(b'\n')?;
     Ok(text)
 }
@@ -137,6 +149,5 @@ fn fault_name(fault: &ImageFault) -> &'static str
         ImageFault::NoLoad => "NoLoad",
         ImageFault::CodeTooLarge => "CodeTooLarge",
         ImageFault::HeadersFull => "HeadersFull",
-        ImageFault::NotYet => "NotYet",
     }
 }
