@@ -1,23 +1,21 @@
 -- The table's entries, and the slots that they name.
-use Rattle.std.proofs.Common.{◌≡◌, ◌≢◌, ℕ, zero, suc, ◌+◌, ◌-◌, ◌*◌, ◌^◌, ◌<◌, ◌≤◌, Bool, true, false, cond, eqb, ltb, leb, List, [], ◌∷◌, ◌++◌, length, get_or, take, drop, map, Option, Some, None, refl, sym, ap, ◌∙◌, subst, inl, inr, arith, append_assoc, add_comm}
-use Rattle.std.specs.Prelude.{slice_get, slice_index, is_some}
-use Rattle.std.specs.List.{range_with_len, filter_map, flat_map}
-use Rattle.std.proofs.lemmas.List.{length-append, length-map, drop_at, get_or-map, get_or-append-add, get_or_append_left, get_or-drop}
+use Rattle.std.proofs.Common.{◌≡◌, ℕ, zero, suc, ◌+◌, ◌-◌, ◌*◌, ◌^◌, ◌<◌, ◌≤◌, true, false, cond, ltb, leb, List, [], ◌∷◌, ◌++◌, length, get_or, drop, map, Option, Some, None, refl, sym, ap, ◌∙◌, subst, inl, inr, arith, append_assoc}
+use Rattle.std.specs.Prelude.{slice_get}
+use Rattle.std.proofs.lemmas.List.{length-append, length-map, get_or-map, get_or-append-add, get_or_append_left}
 use Rattle.std.proofs.lemmas.List.FromFn.{length-range_with_len, get_or-range_with_len}
 use Rattle.std.proofs.Math.Seq.{drop-append-add}
-use Rattle.std.proofs.lemmas.Bool.{eqb-true, eqb-false, leb-true, ltb-true, and_parts, cases_Bool, le-leb, lt-ltb, and_from}
-use Rattle.std.proofs.lemmas.Option.{slice_get-get_or, slice_get_within}
+use Rattle.std.proofs.lemmas.Bool.{leb-true, ltb-true, and_parts, cases_Bool}
+use Rattle.std.proofs.lemmas.Option.{slice_get-get_or}
 use Rattle.byteorder.specs.Endian.{little_bytes, little_number}
 use Rattle.byteorder.specs.Numbers.{little_number-reads_back, length-bytes_low_first}
 use Rattle.mv_base.specs.declared.range.RunPlace.{RunPlace}
 use Rattle.mv_base.specs.Bytes.{word_at, words}
 use Rattle.mv_base.specs.Memory.{within}
-use Rattle.mv_base.specs.Table.{run_of, flat_word, flat_entry, entry_or}
+use Rattle.mv_base.specs.Table.{run_of, flat_word}
 use Rattle.elf32_read.specs.declared.run.Run.{Run}
 use Rattle.elf32_read.specs.Runs.{code_of}
-use Rattle.mv_rewrite.specs.declared.site.Site.{Site}
-use Rattle.mv_rewrite.specs.Sites.{addresses, run_addresses, site_at}
-use Rattle.mv_rewrite.specs.Layout.{entry_in, places, run_places}
+use Rattle.mv_rewrite.specs.Sites.{addresses, run_addresses}
+use Rattle.mv_rewrite.specs.Layout.{run_places}
 
 -- ---- words
 

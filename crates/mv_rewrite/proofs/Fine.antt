@@ -1,14 +1,12 @@
 -- What a header without a fault keeps, and that it keeps it in the output.
-use Rattle.std.proofs.Common.{◌≡◌, ◌≢◌, ℕ, zero, suc, ◌+◌, ◌-◌, ◌*◌, ◌/◌, ◌%◌, ◌^◌, ◌<◌, ◌≤◌, ◌⊎◌, Bool, true, false, not, cond, eqb, leb, ltb, ◌&&◌, ◌||◌, List, [], ◌∷◌, ◌++◌, length, get_or, map, Option, Some, None, refl, sym, ap, ◌∙◌, subst, inl, inr, arith}
-use Rattle.std.specs.Prelude.{slice_index}
-use Rattle.std.specs.List.{list_any}
-use Rattle.std.proofs.lemmas.Bool.{cases_Bool, leb-true, ltb-true, ltb-false, le-ltb, lt-ltb, lt-leb, eq-eqb, eqb-true, eqb-false, ne_eqb, not-false, and_parts, and_cases, and_from, and_left, and_right, or_parts, true≢false, cond_both}
+use Rattle.std.proofs.Common.{◌≡◌, ℕ, ◌+◌, ◌*◌, ◌/◌, ◌%◌, ◌^◌, ◌<◌, ◌≤◌, Bool, true, false, not, cond, eqb, ltb, ◌&&◌, ◌||◌, Option, Some, None, refl, sym, ap, ◌∙◌, inl, inr, arith}
+use Rattle.std.proofs.lemmas.Bool.{cases_Bool, ltb-true, ltb-false, le-ltb, lt-ltb, eq-eqb, eqb-true, ne_eqb, not-false, and_parts, and_from, and_left, and_right, true≢false}
 use Rattle.std.proofs.lemmas.Option.{none-some}
 use Rattle.elf32_read.specs.declared.fault.ImageFault.{ImageFault}
-use Rattle.elf32_read.specs.declared.fault.ImageFault.TheVariants.{Interpreter, Dynamic, FileRange, MemorySmaller, AddressRange, NoPermission, WritableCode, NotCongruent, SharedPage, NoLoad}
+use Rattle.elf32_read.specs.declared.fault.ImageFault.TheVariants.{Interpreter, Dynamic, FileRange, MemorySmaller, AddressRange, NoPermission, WritableCode, NotCongruent, SharedPage}
 use Rattle.elf32_read.specs.declared.image.Phdr.{Phdr}
-use Rattle.elf32_read.specs.Fields.{is_load, maps, has_exec, has_write, has_read, headers}
-use Rattle.elf32_read.specs.Faults.{or_else, fault_if, head_fault, segment_fault, header_fault, headers_fault, free_after, load_refusal}
+use Rattle.elf32_read.specs.Fields.{is_load, maps, has_exec, has_write, has_read}
+use Rattle.elf32_read.specs.Faults.{or_else, segment_fault, header_fault}
 use Rattle.mv_rewrite.specs.File.{head_len, kept_header}
 
 -- ---- chains of tests

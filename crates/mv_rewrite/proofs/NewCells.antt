@@ -1,9 +1,9 @@
 -- The memory of an output: the input's cells, no longer executable, beside those of the block.
-use Rattle.std.proofs.Common.{◌≡◌, ◌≢◌, ℕ, zero, suc, ◌+◌, ◌-◌, ◌*◌, ◌/◌, ◌%◌, ◌^◌, ◌<◌, ◌≤◌, ◌⊎◌, Bool, true, false, not, cond, eqb, leb, ltb, ◌&&◌, ◌||◌, List, [], ◌∷◌, ◌++◌, length, get_or, map, Option, Some, None, refl, sym, ap, ◌∙◌, subst, inl, inr, arith}
+use Rattle.std.proofs.Common.{◌≡◌, ℕ, ◌+◌, ◌-◌, ◌/◌, ◌<◌, ◌≤◌, ◌⊎◌, Bool, true, false, cond, leb, ltb, ◌&&◌, List, [], ◌∷◌, ◌++◌, length, map, Option, Some, None, refl, sym, ap, ◌∙◌, subst, inl, inr, arith}
 use Rattle.std.specs.Prelude.{slice_index}
 use Rattle.std.specs.List.{filter_map, cons_option}
 use Rattle.std.proofs.lemmas.Bool.{cases_Bool, leb-true, ltb-true, ltb-false, le-leb, lt-ltb, le-ltb, lt-leb, leb-false, and_parts, and_from, and_left, and_right, and_cases}
-use Rattle.mv_base.specs.Memory.{Cell, Memory, within, first_of, is_writable, is_executable, cell_is}
+use Rattle.mv_base.specs.Memory.{Cell, Memory, within, first_of, cell_is}
 use Rattle.elf32_read.specs.declared.image.Phdr.{Phdr}
 use Rattle.elf32_read.specs.declared.image.Segment.{Segment}
 use Rattle.elf32_read.specs.Fields.{is_load, maps, has_exec, has_write, segment_of, segments, headers}
@@ -14,7 +14,7 @@ use Rattle.mv_rewrite.specs.File.{kept_header, with_added}
 use Rattle.mv_rewrite.specs.Relocated.{idle_cell, without_exec}
 use Rattle.mv_rewrite.proofs.EntryWords.{within_parts}
 use Rattle.mv_rewrite.proofs.Parts.{Stands}
-use Rattle.mv_rewrite.proofs.Fine.{IsLoaded, IsFine, IsKept, is_kept, kept_load, moved_offset}
+use Rattle.mv_rewrite.proofs.Fine.{IsFine, is_kept, kept_load, moved_offset}
 use Rattle.mv_rewrite.proofs.NewHeaders.{Block, IsBlock, block_size, code_of_block, table_of_block, private_of_block, block_headers, AreApart, fine_parts}
 
 -- ---- ranges

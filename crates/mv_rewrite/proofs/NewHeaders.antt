@@ -1,21 +1,12 @@
 -- The headers of an output: they have no fault, and load the input's cells beside those of the block.
-use Rattle.std.proofs.Common.{lit<, ◌≡◌, ◌≢◌, ℕ, zero, suc, ◌+◌, ◌-◌, ◌*◌, ◌/◌, ◌%◌, ◌^◌, ◌<◌, ◌≤◌, ◌⊎◌, Bool, true, false, not, cond, eqb, leb, ltb, ◌&&◌, ◌||◌, List, [], ◌∷◌, ◌++◌, length, get_or, map, Option, Some, None, refl, sym, ap, ◌∙◌, subst, inl, inr, arith}
-use Rattle.std.specs.Prelude.{slice_index}
-use Rattle.std.specs.List.{list_any, list_all, filter_map, cons_option, AllByRecursion}
-use Rattle.std.proofs.lemmas.List.{length-append, length-map}
-use Rattle.std.proofs.lemmas.Bool.{cases_Bool, leb-true, ltb-true, ltb-false, le-ltb, lt-ltb, lt-leb, leb-false, eq-eqb, and_parts, and_from, and_left, and_right, and_cases, or_cases, or_right, cond_both}
-use Rattle.mv_base.specs.Memory.{Cell, Memory, within, first_of}
+use Rattle.std.proofs.Common.{◌≡◌, ℕ, ◌+◌, ◌*◌, ◌/◌, ◌%◌, ◌<◌, ◌≤◌, ◌⊎◌, true, cond, ltb, ◌&&◌, List, [], ◌∷◌, ◌++◌, map, None, refl, sym, ap, ◌∙◌, subst, inl, inr, arith}
+use Rattle.std.proofs.lemmas.Bool.{cases_Bool, ltb-true, ltb-false, and_parts, cond_both}
 use Rattle.elf32_read.specs.declared.image.Phdr.{Phdr}
-use Rattle.elf32_read.specs.declared.image.Segment.{Segment}
-use Rattle.elf32_read.specs.Fields.{is_load, maps, has_exec, has_write, has_read, segment_of, segments, headers}
+use Rattle.elf32_read.specs.Fields.{maps}
 use Rattle.elf32_read.specs.Faults.{or_else, header_fault, headers_fault, free_after}
-use Rattle.elf32_read.specs.Load.{segment_cell, load_in, load}
-use Rattle.mv_rewrite.specs.Layout.{up, is_apart}
-use Rattle.mv_rewrite.specs.File.{head_len, kept_header, added_header, with_added}
-use Rattle.mv_rewrite.specs.Relocated.{idle_cell, without_exec}
-use Rattle.mv_rewrite.proofs.EntryWords.{within_parts}
-use Rattle.mv_rewrite.proofs.Parts.{Stands, IsHeader}
-use Rattle.mv_rewrite.proofs.Fine.{neither, IsLoaded, IsMapped, IsFine, fine_is, fine_none, fine_more, IsKept, is_kept, kept_load, kept_maps, kept_fine, moved_offset}
+use Rattle.mv_rewrite.specs.Layout.{up}
+use Rattle.mv_rewrite.specs.File.{kept_header, added_header, with_added}
+use Rattle.mv_rewrite.proofs.Fine.{neither, IsFine, fine_is, fine_none, fine_more, is_kept, kept_maps, kept_fine}
 
 -- ---- the block and its headers
 

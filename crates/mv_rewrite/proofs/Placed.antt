@@ -1,24 +1,22 @@
 -- From where the plan's bytes are loaded to what stands at each site's entry.
-use Rattle.std.proofs.Common.{◌≡◌, ◌≢◌, ℕ, zero, suc, ◌+◌, ◌-◌, ◌*◌, ◌/◌, ◌^◌, ◌<◌, ◌≤◌, Bool, true, false, cond, eqb, ltb, leb, List, [], ◌∷◌, ◌++◌, length, get_or, Option, Some, None, refl, sym, ap, ◌∙◌, subst, inl, inr, arith}
+use Rattle.std.proofs.Common.{◌≡◌, ℕ, ◌+◌, ◌-◌, ◌*◌, ◌^◌, ◌<◌, ◌≤◌, true, false, cond, eqb, ltb, leb, List, [], length, Option, Some, None, refl, sym, ap, ◌∙◌, subst, arith}
 use mathlib.Core.Path.{fun_ext}
-use Rattle.std.specs.Prelude.{slice_index, replicate, is_some}
-use Rattle.std.specs.List.{filter_map}
-use Rattle.std.proofs.lemmas.List.{length-append, get_or_append_left}
+use Rattle.std.specs.Prelude.{slice_index, replicate}
+use Rattle.std.proofs.lemmas.List.{get_or_append_left}
 use Rattle.std.proofs.lemmas.Bool.{ne_eqb, le-leb, lt-ltb, lt-leb, and_from, and_left, cond_both}
 use Rattle.std.proofs.lemmas.Option.{none-some}
-use Rattle.mv_base.specs.Memory.{Cell, Memory, exec_byte, exec_byte_of, is_writable, cell_is, within}
+use Rattle.mv_base.specs.Memory.{exec_byte_of, cell_is}
 use Rattle.mv_base.specs.Table.{entry_or, flat_entry, flat_word, run_of}
 use Rattle.elf32_read.specs.Load.{load}
 use Rattle.elf32_read.specs.Runs.{runs_of, code_of}
 use Rattle.mv_rewrite.specs.declared.site.Site.{Site}
-use Rattle.mv_rewrite.specs.declared.plan.Plan.{Plan}
 use Rattle.mv_rewrite.specs.Sites.{site_at, code_in, addresses, sites, sites_in}
-use Rattle.mv_rewrite.specs.Pieces.{piece, with_join, filled, slot_len, slot, slots}
-use Rattle.mv_rewrite.specs.Layout.{up, entry_in, moved, places, table, run_places, code_len, table_len, private_len, size, pairs_at, plan_at}
-use Rattle.mv_rewrite.specs.Frame.{Frame, frame_map, frame_entry, frame_table, is_added, is_private}
+use Rattle.mv_rewrite.specs.Pieces.{piece, with_join, slot_len, slot}
+use Rattle.mv_rewrite.specs.Layout.{up, entry_in, moved, table, run_places, code_len, table_len, private_len, size, pairs_at, plan_at}
+use Rattle.mv_rewrite.specs.Frame.{Frame, frame_map, frame_entry, frame_table}
 use Rattle.mv_rewrite.specs.Relocated.{StandAt, PieceAt}
 use Rattle.mv_rewrite.proofs.EntryWords.{entry_where, flat_in}
-use Rattle.mv_rewrite.proofs.SlotPlaces.{IsSiteAt, is_site_at, length-with_join, HasSlot, has_slot, no_entry, length-slots, entry_in-le, IsAmong, address_among}
+use Rattle.mv_rewrite.proofs.SlotPlaces.{IsSiteAt, is_site_at, length-with_join, HasSlot, has_slot, no_entry, length-slots, entry_in-le, address_among}
 
 -- the plan's code and table are loaded where the frame says
 pub record IsPlaced (b : List ℕ) (base : ℕ) (x : List ℕ) (f : Frame) : Type 0 where

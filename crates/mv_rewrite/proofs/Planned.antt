@@ -1,16 +1,14 @@
 -- The plan of any image: its block, and the file that it gives.
-use Rattle.std.proofs.Common.{lit<, ◌≡◌, ◌≢◌, ℕ, zero, suc, ◌+◌, ◌-◌, ◌*◌, ◌/◌, ◌%◌, ◌^◌, ◌<◌, ◌≤◌, ◌⊎◌, Bool, true, false, not, cond, eqb, leb, ltb, ◌&&◌, ◌||◌, List, [], ◌∷◌, ◌++◌, length, get_or, drop, map, Option, Some, None, refl, sym, ap, ◌∙◌, subst, inl, inr, arith}
-use Rattle.std.specs.Prelude.{slice_index}
+use Rattle.std.proofs.Common.{lit<, ◌≡◌, ℕ, zero, suc, ◌+◌, ◌*◌, ◌/◌, ◌%◌, ◌^◌, ◌<◌, ◌≤◌, Bool, true, false, not, cond, eqb, leb, ltb, ◌&&◌, List, [], ◌∷◌, ◌++◌, length, drop, map, Option, Some, None, refl, sym, ap, ◌∙◌, subst, inl, inr, arith}
 use Rattle.std.specs.List.{list_any, list_all, filter_map, cons_option, sum_by, range_with_len, AllByRecursion}
 use Rattle.std.specs.Option.{option_map}
 use Rattle.std.proofs.lemmas.List.{length-append, length-map, get_or-drop}
 use Rattle.std.proofs.lemmas.List.FromFn.{length-range_with_len}
 use Rattle.std.proofs.lemmas.List.Sums.{sum_by-cons}
-use Rattle.std.proofs.lemmas.Bool.{true≢false, cases_Bool, leb-true, ltb-true, ltb-false, and_parts, and_cases, or_cases, or_left, or_right, cond_both}
+use Rattle.std.proofs.lemmas.Bool.{true≢false, cases_Bool, leb-true, ltb-false, and_parts, or_cases, or_left, or_right, cond_both}
 use Rattle.std.proofs.lemmas.Option.{none-some, same_Some}
 use Rattle.byteorder.specs.Numbers.{little_from-lt}
 use Rattle.mv_base.specs.Bytes.{AreBytes, word_at, words}
-use Rattle.mv_base.specs.Memory.{within}
 use Rattle.mv_base.specs.declared.range.RunPlace.{RunPlace}
 use Rattle.elf32_read.specs.declared.image.Phdr.{Phdr}
 use Rattle.elf32_read.specs.declared.image.Segment.{Segment}
@@ -20,15 +18,14 @@ use Rattle.elf32_read.specs.Faults.{or_else, fault_if, head_fault, headers_fault
 use Rattle.elf32_read.specs.declared.fault.ImageFault.TheVariants.{ShortHeader, NoLoad}
 use Rattle.elf32_read.specs.Runs.{runs_of, code_of}
 use Rattle.elf32_read.specs.Runs as runs
-use Rattle.mv_rewrite.specs.declared.plan.Plan.{Plan}
 use Rattle.mv_rewrite.specs.Sites.{code_in, addresses, run_addresses, sites, sites_in}
-use Rattle.mv_rewrite.specs.Layout.{up, moved, entry_in, is_apart, has_room, lowest, first_fit, base_of, size, code_len, table_len, private_len, pairs_at, run_places, table, plan_at}
-use Rattle.mv_rewrite.specs.File.{head_len, code_place, table_of, kept_header, added_header, added_headers, with_added, new_headers, file_of}
+use Rattle.mv_rewrite.specs.Layout.{up, moved, entry_in, is_apart, has_room, lowest, first_fit, base_of, size, code_len, table_len, pairs_at, run_places, table, plan_at}
+use Rattle.mv_rewrite.specs.File.{head_len, code_place, table_of, kept_header, added_header, with_added, new_headers, file_of}
 use Rattle.mv_rewrite.proofs.EntryWords.{length-words}
 use Rattle.mv_rewrite.proofs.SlotPlaces.{length-slots, entry_in-le}
 use Rattle.mv_rewrite.proofs.Parts.{IsHeader}
 use Rattle.mv_rewrite.proofs.Written.{IsWritable, IsWritten, written}
-use Rattle.mv_rewrite.proofs.Fine.{passed, neither, IsKept, is_kept}
+use Rattle.mv_rewrite.proofs.Fine.{passed, neither}
 use Rattle.mv_rewrite.proofs.NewHeaders.{Block, IsBlock, block_size, code_of_block, table_of_block, private_of_block, block_headers, AreApart, fine_output}
 
 -- ---- the lowest number that passes

@@ -1,26 +1,21 @@
 -- The frame of an output.
-use Rattle.std.proofs.Common.{lit<, ◌≡◌, ◌≢◌, ℕ, zero, suc, ◌+◌, ◌-◌, ◌*◌, ◌/◌, ◌%◌, ◌^◌, ◌<◌, ◌≤◌, ◌⊎◌, Bool, true, false, cond, eqb, leb, ltb, ◌&&◌, List, [], ◌∷◌, ◌++◌, length, get_or, take, drop, map, Option, Some, None, refl, sym, ap, ◌∙◌, subst, inl, inr, arith, append-nil}
+use Rattle.std.proofs.Common.{lit<, ◌≡◌, ℕ, ◌+◌, ◌-◌, ◌*◌, ◌%◌, ◌^◌, ◌<◌, ◌≤◌, true, cond, eqb, leb, ltb, ◌&&◌, List, [], ◌∷◌, ◌++◌, length, get_or, take, drop, map, Some, None, refl, sym, ap, ◌∙◌, subst, arith, append-nil}
 use mathlib.Core.Path.{fun_ext}
-use Rattle.std.specs.Prelude.{slice_index}
 use Rattle.std.specs.List.{flat_map, range_with_len, sum_by, AllByRecursion}
-use Rattle.std.proofs.lemmas.List.{length-append, length-take, length-drop, get_or-take, get_or-drop, get_or_append_left, ext_get_or}
+use Rattle.std.proofs.lemmas.List.{length-take, length-drop, get_or-take, get_or-drop, ext_get_or}
 use Rattle.std.proofs.lemmas.List.Sums.{sum_by-cons}
 use Rattle.std.proofs.lemmas.Bool.{eq-eqb, le-leb, lt-ltb, and_from}
-use Rattle.mv_base.specs.Bytes.{AreBytes, word_at, words}
+use Rattle.mv_base.specs.Bytes.{word_at, words}
 use Rattle.mv_base.specs.declared.range.RunPlace.{RunPlace}
 use Rattle.elf32_read.specs.declared.run.Run.{Run}
 use Rattle.elf32_read.specs.Runs.{runs_of}
 use Rattle.elf32_read.specs.Runs as runs
-use Rattle.mv_rewrite.specs.declared.plan.Plan.{Plan}
-use Rattle.mv_rewrite.specs.Sites.{addresses}
-use Rattle.mv_rewrite.specs.Layout.{up, code_len, table_len, private_len, size, base_of, run_places, plan_at}
+use Rattle.mv_rewrite.specs.Layout.{up, code_len, table_len, private_len, run_places, plan_at}
 use Rattle.mv_rewrite.specs.File.{head_len, code_place, table_of, record_words, place_words, frame_magic, file_of}
 use Rattle.mv_rewrite.specs.Frame.{Frame, field, run_place_at, frame_at, has_record, has_places, has_block, has_runs, has_size, keeps_rules, frame, frame_table}
 use Rattle.mv_rewrite.proofs.EntryWords.{length-words}
 use Rattle.mv_rewrite.proofs.Parts.{Stands, stands_first, stands_second, word_in, words-append}
-use Rattle.mv_rewrite.proofs.Written.{IsWritten}
-use Rattle.mv_rewrite.proofs.NewHeaders.{Block}
-use Rattle.mv_rewrite.proofs.Planned.{length-code, length-table, length-table_of, size_is, plan_runs, length-run_places, run_len, length-addresses, IsInput, HasRoom, room, wrote, length-output}
+use Rattle.mv_rewrite.proofs.Planned.{length-code, length-table, length-table_of, size_is, length-run_places, run_len, length-addresses, IsInput, room, wrote, length-output}
 
 -- the part that stands at a place is what is taken from there
 pub taken : (x part : List ℕ) (p n : ℕ) → length part ≡ n → Stands x p part → take n (drop p x) ≡ part

@@ -1,23 +1,21 @@
 -- An output is relocated.
-use Rattle.std.proofs.Common.{◌≡◌, ◌≢◌, ℕ, zero, suc, ◌+◌, ◌-◌, ◌*◌, ◌/◌, ◌^◌, ◌<◌, ◌≤◌, ◌⊎◌, Bool, true, false, not, cond, leb, ltb, ◌&&◌, List, [], ◌∷◌, length, map, Option, Some, None, refl, sym, ap, ◌∙◌, subst, inl, inr, arith}
-use Rattle.std.proofs.lemmas.Bool.{cases_Bool, cases_lt, and_parts, and_from, and_cases, lt-ltb, ltb-false, true≢false}
-use Rattle.std.proofs.lemmas.Option.{none-some}
-use Rattle.mv_base.specs.Memory.{Cell, Memory, within, first_of, is_writable, is_executable, cell_is}
+use Rattle.std.proofs.Common.{◌≡◌, ℕ, ◌+◌, Bool, true, false, ltb, List, [], ◌∷◌, length, Option, Some, None, refl, sym, ap, ◌∙◌, inl, inr, arith}
+use Rattle.std.proofs.lemmas.Bool.{cases_Bool, cases_lt, and_from, and_cases, lt-ltb, ltb-false, true≢false}
+use Rattle.mv_base.specs.Memory.{Cell, within, first_of, cell_is}
 use Rattle.elf32_read.specs.declared.image.Phdr.{Phdr}
 use Rattle.elf32_read.specs.Fields.{headers, entry_at, is_load, maps, has_write, has_exec}
 use Rattle.elf32_read.specs.Faults.{headers_fault, free_after}
 use Rattle.elf32_read.specs.Load.{load}
-use Rattle.mv_rewrite.specs.Layout.{up, code_len, table_len, size, plan_at}
-use Rattle.mv_rewrite.specs.File.{kept_header, with_added, file_of}
-use Rattle.mv_rewrite.specs.Frame.{Frame, frame_map, is_added, is_private}
+use Rattle.mv_rewrite.specs.Layout.{up, code_len, table_len, plan_at}
+use Rattle.mv_rewrite.specs.File.{with_added, file_of}
+use Rattle.mv_rewrite.specs.Frame.{is_added, is_private}
 use Rattle.mv_rewrite.specs.Relocated.{IsRelocated, without_exec}
 use Rattle.mv_rewrite.proofs.EntryWords.{within_parts}
-use Rattle.mv_rewrite.proofs.Written.{IsWritten}
 use Rattle.mv_rewrite.proofs.Placed.{IsPlaced, map_is, others, mapped, pieces}
-use Rattle.mv_rewrite.proofs.Fine.{IsMapped, IsFine}
-use Rattle.mv_rewrite.proofs.NewHeaders.{Block, IsBlock, block_size, block_headers, AreApart, fine_parts}
-use Rattle.mv_rewrite.proofs.NewCells.{not_within, header_cell, inner_cell, cells_of, loads, cell_inside, cell_outside, cell_unloaded, within_not, kept_cells, InBlock, OutOfBlock, output_out, output_in, code_cell, block_fixed, private_cell}
-use Rattle.mv_rewrite.proofs.Planned.{length-code, size_is, plan_runs, IsInput, HasRoom, room, block, headers_none, wrote, is_block, headers_apart, output_headers, admitted}
+use Rattle.mv_rewrite.proofs.Fine.{IsFine}
+use Rattle.mv_rewrite.proofs.NewHeaders.{Block, IsBlock, block_headers, AreApart, fine_parts}
+use Rattle.mv_rewrite.proofs.NewCells.{not_within, header_cell, cells_of, loads, cell_inside, cell_outside, cell_unloaded, within_not, kept_cells, InBlock, OutOfBlock, output_out, output_in, code_cell, block_fixed, private_cell}
+use Rattle.mv_rewrite.proofs.Planned.{length-code, size_is, IsInput, room, block, headers_none, wrote, is_block, headers_apart, output_headers, admitted}
 use Rattle.mv_rewrite.proofs.Recorded.{frame_is, framed, table_there}
 
 -- ---- the input's cells

@@ -1,28 +1,26 @@
 -- The slots of sites: their length, and which slot an entry names.
-use Rattle.std.proofs.Common.{◌≡◌, ◌≢◌, ℕ, zero, suc, ◌+◌, ◌-◌, ◌*◌, ◌^◌, ◌<◌, ◌≤◌, Bool, true, false, cond, eqb, List, [], ◌∷◌, ◌++◌, length, get_or, take, Option, Some, None, refl, sym, ap, ◌∙◌, subst, inl, inr, arith}
+use Rattle.std.proofs.Common.{◌≡◌, ℕ, zero, suc, ◌+◌, ◌-◌, ◌*◌, ◌<◌, ◌≤◌, Bool, true, false, cond, eqb, List, [], ◌∷◌, ◌++◌, length, get_or, take, Option, Some, None, refl, sym, ap, ◌∙◌, subst, inl, inr, arith}
 use Rattle.std.specs.Prelude.{slice_index, replicate}
-use Rattle.std.specs.List.{filter_map, cons_option, range_with_len}
+use Rattle.std.specs.List.{filter_map, cons_option}
 use Rattle.std.proofs.lemmas.List.{length-append, length-replicate, get_or_append_left, get_or-append-add}
 use Rattle.std.proofs.lemmas.List.FromFn.{length-range_with_len, get_or-range_with_len}
 use Rattle.std.proofs.lemmas.Bool.{eq-eqb, ne_eqb, cases_eq, cases_Bool, cond_both}
 use Rattle.std.proofs.lemmas.Option.{none-some, same_Some}
-use Rattle.byteorder.specs.Numbers.{length-bytes_low_first}
-use Rattle.mv_base.specs.Bytes.{word, words}
+use Rattle.mv_base.specs.Bytes.{word}
 use Rattle.mv_base.specs.Memory.{exec_bytes, within}
-use Rattle.mv_base.specs.Table.{run_of, flat_entry}
 use Rattle.x86_insn.specs.declared.insn.Insn.{Insn}
 use Rattle.x86_insn.specs.declared.insn.Flow.{Flow}
 use Rattle.x86_insn.specs.declared.insn.Flow.TheVariants as flow
 use Rattle.x86_insn.specs.Flow.{flow_of, falls}
 use Rattle.x86_insn.specs.Spelling.{spelled, or_else, with_len, first_spelled, decoded}
-use Rattle.x86_insn.specs.Step.{Fetched, Absent, Found, Unknown, found, fetched, fetch_in}
+use Rattle.x86_insn.specs.Step.{Fetched, Absent, Found, Unknown, fetched, fetch_in}
 use Rattle.elf32_read.specs.declared.run.Run.{Run}
 use Rattle.elf32_read.specs.Runs.{code_of}
 use Rattle.mv_rewrite.specs.declared.site.Site.{Site}
-use Rattle.mv_rewrite.specs.Sites.{addresses, run_addresses, site_found, site_at, sites_in}
-use Rattle.mv_rewrite.specs.Pieces.{jump_bytes, target, successor, piece_of, piece, join, with_join, filled, slot_len, slot, slots}
-use Rattle.mv_rewrite.specs.Layout.{entry_in, places, run_places, table}
-use Rattle.mv_rewrite.proofs.EntryWords.{within_parts, code_within, code_beyond, entry_where, flat_in}
+use Rattle.mv_rewrite.specs.Sites.{addresses, run_addresses, site_found, site_at}
+use Rattle.mv_rewrite.specs.Pieces.{jump_bytes, target, successor, piece_of, piece, join, with_join, slot_len, slot, slots}
+use Rattle.mv_rewrite.specs.Layout.{entry_in, places}
+use Rattle.mv_rewrite.proofs.EntryWords.{within_parts, code_beyond}
 
 -- ---- lengths
 

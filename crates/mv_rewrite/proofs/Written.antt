@@ -1,23 +1,22 @@
 -- What stands where in the file of a plan.
-use Rattle.std.proofs.Common.{◌≡◌, ℕ, zero, suc, ◌+◌, ◌-◌, ◌*◌, ◌/◌, ◌^◌, ◌<◌, ◌≤◌, Bool, true, false, not, cond, eqb, ltb, List, [], ◌∷◌, ◌++◌, length, get_or, take, drop, map, Option, Some, None, refl, sym, ap, ◌∙◌, subst, inl, inr, arith, append_assoc}
-use Rattle.std.specs.Prelude.{slice_index, replicate}
+use Rattle.std.proofs.Common.{◌≡◌, ℕ, ◌+◌, ◌*◌, ◌^◌, ◌<◌, ◌≤◌, false, eqb, ltb, List, [], ◌∷◌, ◌++◌, length, take, drop, map, None, refl, sym, ap, ◌∙◌, subst, arith}
+use Rattle.std.specs.Prelude.{slice_index}
 use Rattle.std.specs.List.{flat_map, range_with_len, AllByRecursion}
-use Rattle.std.proofs.lemmas.Bool.{le-ltb, eq-eqb, ne_eqb}
+use Rattle.std.proofs.lemmas.Bool.{le-ltb, ne_eqb}
 use Rattle.std.proofs.lemmas.List.{length-append, length-take, length-drop, get_or-take, ext_get_or, take-append-drop}
 use Rattle.std.proofs.lemmas.List.FromFn.{fill_by_all}
 use Rattle.byteorder.specs.Numbers.{little_number-reads_back}
-use Rattle.byteorder.specs.Endian.{little_bytes}
 use Rattle.mv_base.specs.Bytes.{word_at, half_at, half, words}
 use Rattle.mv_base.specs.declared.range.RunPlace.{RunPlace}
 use Rattle.elf32_read.specs.declared.image.Phdr.{Phdr}
 use Rattle.elf32_read.specs.Fields.{header_at, headers, header_offset, header_count, entry_at, ident_rest}
-use Rattle.elf32_read.specs.Faults.{has_magic, head_fault}
+use Rattle.elf32_read.specs.Faults.{head_fault}
 use Rattle.mv_rewrite.specs.declared.plan.Plan.{Plan}
 use Rattle.mv_rewrite.specs.Pieces.{filled}
 use Rattle.mv_rewrite.specs.Layout.{up}
 use Rattle.mv_rewrite.specs.File.{padded, table_of, code_place, new_headers, header_words, elf_header, record_words, place_words, head, file_of}
 use Rattle.mv_rewrite.proofs.EntryWords.{length-words}
-use Rattle.mv_rewrite.proofs.Parts.{Stands, stands_whole, stands_left, stands_right, stands_in, stands_first, stands_second, word_alike, half_alike, IsHeader, headers_in, words-append, stands_filled, length-filled}
+use Rattle.mv_rewrite.proofs.Parts.{Stands, stands_whole, stands_left, stands_right, stands_in, stands_first, stands_second, IsHeader, headers_in, words-append, stands_filled, length-filled}
 
 -- what a plan has to keep so that its file can be read again
 pub record IsWritable (b : List ℕ) (p : Plan) : Type 0 where

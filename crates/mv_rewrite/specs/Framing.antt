@@ -1,5 +1,5 @@
 -- The rules of a frame record, word by word. This project's own format.
-use Rattle.std.specs.Prelude.{◌≡◌, ℕ, ◌+◌, ◌-◌, ◌*◌, ◌≤◌, ◌%◌, Bool, true, ◌&&◌, List, length, nat_lt, nat_le}
+use Rattle.std.specs.Prelude.{◌≡◌, ℕ, ◌+◌, ◌-◌, ◌*◌, ◌≤◌, Bool, true, ◌&&◌, List, length, nat_lt, nat_le}
 use Rattle.mv_base.specs.declared.range.RunPlace.{RunPlace}
 use Rattle.mv_rewrite.specs.Layout.{up, private_len}
 use Rattle.mv_rewrite.specs.File.{code_place}

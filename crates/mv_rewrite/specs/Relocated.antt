@@ -1,7 +1,7 @@
 -- What an output is to its input before anything runs: how it loads, and what stands where. This project's own.
-use Rattle.std.specs.Prelude.{◌≡◌, ℕ, ◌+◌, ◌^◌, ◌<◌, ◌≤◌, Bool, true, false, List, ◌++◌, length, Option, Some, None, slice_index}
+use Rattle.std.specs.Prelude.{◌≡◌, ℕ, ◌+◌, ◌^◌, ◌<◌, ◌≤◌, true, false, List, length, Option, Some, None, slice_index}
 use Rattle.std.specs.Option.{option_map}
-use Rattle.mv_base.specs.Memory.{Cell, Memory, exec_byte, is_writable, is_executable}
+use Rattle.mv_base.specs.Memory.{Cell, exec_byte, is_writable, is_executable}
 use Rattle.elf32_read.specs.Fields.{entry_at}
 use Rattle.elf32_read.specs.Faults.{load_refusal}
 use Rattle.elf32_read.specs.Load.{load}

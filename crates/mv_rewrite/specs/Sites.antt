@@ -1,6 +1,6 @@
 -- Sites: the addresses at which an instruction lies wholly in executable cells. The method is after Multiverse,
 -- which disassembles from every byte.
-use Rattle.std.specs.Prelude.{◌≡◌, ℕ, List, length, Option, Some, None, IsSome}
+use Rattle.std.specs.Prelude.{ℕ, List, length, Option, Some, None, IsSome}
 use Rattle.std.specs.List.{filter_map, flat_map, range_with_len}
 use Rattle.mv_base.specs.Memory.{exec_byte}
 use Rattle.x86_insn.specs.Step.{Fetched, Absent, Found, Unknown, fetch_in}

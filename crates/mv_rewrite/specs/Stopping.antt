@@ -4,7 +4,7 @@ use Rattle.std.specs.List.{AllByRecursion}
 use Rattle.mv_base.specs.Bytes.{number}
 use Rattle.mv_base.specs.Memory.{bytes_at}
 use Rattle.mv_base.specs.Effects.{Answer, IsAnswer}
-use Rattle.x86_insn.specs.State.{State, FetchFault, Stop, Trap, Outside, Outcome, Stopped}
+use Rattle.x86_insn.specs.State.{State, FetchFault, Stop, Trap, Outside, Stopped}
 use Rattle.x86_insn.specs.Step.{step}
 use Rattle.mv_rewrite.specs.declared.site.Site.{Site}
 use Rattle.mv_rewrite.specs.Sites.{site_at, code_in}

@@ -1,5 +1,4 @@
-use Rattle.std.proofs.Common.{◌≡◌, ◌∙◌, true, false, sym, arith}
-use Rattle.mv_base.specs.Memory.{within}
+use Rattle.std.proofs.Common.{◌∙◌, sym, arith}
 use Rattle.mv_rewrite.proofs.RecordRuns.{search_first, search_hits, search_misses, search_end}
 use Rattle.mv_rewrite.proofs.frame.run_with.Goals as goal
 

@@ -1,5 +1,4 @@
-use Rattle.std.proofs.Common.{arith, sym, ap, ◌∙◌}
-use Rattle.mv_base.specs.Span.{Span}
+use Rattle.std.proofs.Common.{arith, ◌∙◌}
 use Rattle.mv_rewrite.proofs.Assembled.{added_is, ends_low}
 use Rattle.mv_rewrite.proofs.rewriting.added.Goals as goal
 

@@ -1,4 +1,3 @@
-use Rattle.std.proofs.Common.{List, ℕ}
 use Rattle.mv_rewrite.proofs.HeadBytes.{elf_parts}
 use Rattle.mv_rewrite.proofs.file.head.put_elf_header.Goals as goal
 

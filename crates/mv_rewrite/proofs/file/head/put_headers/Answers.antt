@@ -1,5 +1,4 @@
-use Rattle.std.proofs.Common.{◌≡◌, ◌∙◌, ap, map, List, refl, arith}
-use Rattle.elf32_read.specs.declared.image.Phdr.{Phdr}
+use Rattle.std.proofs.Common.{arith}
 use Rattle.mv_rewrite.specs.File.{header_words}
 use Rattle.mv_rewrite.proofs.HeadBytes.{none_yet, one_more, all_done}
 use Rattle.mv_rewrite.proofs.file.head.put_headers.Goals as goal

@@ -1,4 +1,4 @@
-use Rattle.std.proofs.Common.{◌≡◌, ◌∙◌, ap, map, List, refl, arith}
+use Rattle.std.proofs.Common.{◌∙◌, ap, arith}
 use Rattle.elf32_read.specs.declared.image.Phdr.{Phdr}
 use Rattle.mv_rewrite.specs.File.{header_words, kept_header}
 use Rattle.mv_rewrite.proofs.HeadBytes.{none_yet, one_more, all_kept_done}

@@ -1,4 +1,4 @@
-use Rattle.std.proofs.Common.{◌≡◌, ◌∙◌, ◌+◌, ◌-◌, ◌*◌, List, ℕ, sym, ap, length, arith}
+use Rattle.std.proofs.Common.{◌∙◌, ◌+◌, ◌-◌, ◌*◌, List, ℕ, sym, ap, length, arith}
 use Rattle.mv_base.specs.Bytes.{word_at}
 use Rattle.mv_rewrite.specs.Frame.{frame_table}
 use Rattle.mv_rewrite.proofs.RecordRuns.{has_word, entry_found, entry_none}

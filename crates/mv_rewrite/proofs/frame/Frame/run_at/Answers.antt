@@ -1,4 +1,4 @@
-use Rattle.std.proofs.Common.{◌≡◌, ◌<◌, ◌∙◌, Some, sym, ap, length, arith}
+use Rattle.std.proofs.Common.{◌<◌, ◌∙◌, Some, sym, ap, length, arith}
 use Rattle.std.specs.List.{slice_get}
 use Rattle.mv_rewrite.specs.Frame.{Frame, field}
 use Rattle.mv_rewrite.proofs.RecordRuns.{run_total, run_number}

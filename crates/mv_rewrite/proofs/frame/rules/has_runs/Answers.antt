@@ -1,6 +1,6 @@
-use Rattle.std.proofs.Common.{◌≡◌, ◌+◌, ◌∙◌, sym, ap, Bool, true, false, arith}
+use Rattle.std.proofs.Common.{◌≡◌, ◌+◌, ap, true, false, arith}
 use Rattle.mv_base.specs.declared.range.RunPlace.{RunPlace}
-use Rattle.mv_rewrite.specs.Frame.{frame_at, has_runs, field, run_place_at}
+use Rattle.mv_rewrite.specs.Frame.{field, run_place_at}
 use Rattle.mv_rewrite.specs.Framing.{is_run}
 use Rattle.mv_rewrite.proofs.RecordRuns.{rule_first, rule_fails, rule_holds, rule_end}
 use Rattle.mv_rewrite.proofs.frame.rules.has_runs.Goals as goal

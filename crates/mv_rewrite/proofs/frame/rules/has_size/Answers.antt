@@ -1,6 +1,6 @@
-use Rattle.std.proofs.Common.{◌≡◌, ◌+◌, ◌∙◌, sym, ap, leb, arith}
+use Rattle.std.proofs.Common.{◌≡◌, ◌+◌, sym, ap, leb, arith}
 use Rattle.mv_base.specs.declared.range.RunPlace.{RunPlace}
-use Rattle.mv_rewrite.specs.Frame.{frame_at, run_place_at}
+use Rattle.mv_rewrite.specs.Frame.{run_place_at}
 use Rattle.mv_rewrite.proofs.RecordRuns.{len_first, len_next, len_end}
 use Rattle.mv_rewrite.proofs.frame.rules.has_size.Goals as goal
 
