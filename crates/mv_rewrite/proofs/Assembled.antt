@@ -1,5 +1,5 @@
 -- What the plan of a file gives its writer, and that its file is the output.
-use Rattle.std.proofs.Common.{◌≡◌, ℕ, ◌+◌, ◌≤◌, List, [], ◌∷◌, length, Option, Some, None, true, refl, sym, ap, ◌∙◌, subst, arith}
+use Rattle.std.proofs.Common.{◌≡◌, ℕ, ◌+◌, ◌≤◌, List, length, Option, Some, None, refl, sym, ap, ◌∙◌, subst, arith}
 use Rattle.std.specs.Prelude.{IfOk, Result, Ok, Err}
 use Rattle.std.specs.Option.{option_map}
 use Rattle.mv_base.specs.Bytes.{AreBytes}
@@ -25,14 +25,14 @@ use Rattle.mv_rewrite.specs.declared.rewriting.Rewritten.{Rewritten}
 use Rattle.mv_rewrite.specs.declared.rewriting.RewriteFault.{RewriteFault}
 use Rattle.mv_rewrite.specs.declared.site.Site.{Site}
 use Rattle.mv_rewrite.specs.Sites.{sites, sites_in}
-use Rattle.mv_rewrite.specs.Layout.{up, base_of, size, code_len, table_len, private_len, plan_at}
-use Rattle.mv_rewrite.specs.File.{added_len, table_of, file_of}
+use Rattle.mv_rewrite.specs.Layout.{up, base_of, size, code_len, plan_at}
+use Rattle.mv_rewrite.specs.File.{added_len, file_of}
 use Rattle.mv_rewrite.specs.Laying.{IsLaid, LaysOut}
 use Rattle.mv_rewrite.specs.Rewriting.{laid_fault, IsRewritten}
 use Rattle.mv_rewrite.specs.Output.{output, output_at}
 use Rattle.mv_rewrite.specs.Stopping.{Simulates}
 use Rattle.mv_rewrite.specs.Writing.{EndsLow}
-use Rattle.mv_rewrite.proofs.Planned.{length-code, length-table_of, length-counted, plan_runs, length-run_places, size_is, HasRoom, has_room_at}
+use Rattle.mv_rewrite.proofs.Planned.{length-code, length-table_of, length-counted, plan_runs, length-run_places, size_is, has_room_at}
 use Rattle.mv_rewrite.proofs.LayoutFacts.{sites_of_runs}
 use Rattle.mv_rewrite.proofs.Outputs.{simulated, image_input}
 

@@ -1,9 +1,7 @@
 -- The layout of a file: what its sites, its block and its table are.
-use Rattle.std.proofs.Common.{◌≡◌, ℕ, zero, suc, ◌+◌, ◌*◌, ◌/◌, ◌^◌, ◌<◌, ◌≤◌, ◌⊎◌, Bool, true, false, cond, List, [], ◌∷◌, length, Option, Some, None, refl, sym, ap, ◌∙◌, subst, inl, inr, arith}
-use Rattle.std.specs.Prelude.{IsSome}
+use Rattle.std.proofs.Common.{◌≡◌, ℕ, zero, suc, ◌+◌, ◌*◌, ◌/◌, ◌^◌, ◌<◌, ◌≤◌, Bool, true, false, cond, List, [], ◌∷◌, length, Option, Some, None, refl, sym, ap, ◌∙◌, subst, arith}
 use Rattle.std.specs.List.{filter_map}
 use Rattle.std.specs.Option.{option_map}
-use Rattle.std.proofs.lemmas.Bool.{cases_lt}
 use Rattle.std.proofs.lemmas.Bool.Decides.{nat_tests}
 use Rattle.mv_base.specs.declared.range.RunPlace.{RunPlace}
 use Rattle.elf32_read.specs.declared.image.Phdr.{Phdr}
@@ -20,7 +18,7 @@ use Rattle.mv_rewrite.specs.declared.plan.Plan.{Plan}
 use Rattle.mv_rewrite.specs.declared.table.AddressTable.{AddressTable}
 use Rattle.mv_rewrite.specs.Sites.{code_in, sites, sites_in, addresses}
 use Rattle.mv_rewrite.specs.Pieces.{slots}
-use Rattle.mv_rewrite.specs.Layout.{up, size, places, entry_in, moved, is_apart, has_room, lowest, first_fit, base_of, plan_at, table, run_places}
+use Rattle.mv_rewrite.specs.Layout.{up, size, places, entry_in, moved, has_room, lowest, first_fit, base_of, plan_at, table, run_places}
 use Rattle.mv_rewrite.specs.Laying.{IsLaid}
 use Rattle.mv_rewrite.specs.Lookup.{Ascend, IsTable, HasWords, table_entry, table_move}
 use Rattle.mv_rewrite.specs.Room.{ArePagesApart}

@@ -1,17 +1,13 @@
 -- The output of a file with no fault simulates it.
-use Rattle.std.proofs.Common.{◌≡◌, ℕ, ◌+◌, ◌≤◌, true, List, [], ◌∷◌, length, Option, Some, None, refl, sym, ap, ◌∙◌, arith}
-use Rattle.std.specs.List.{sum_by}
-use Rattle.std.proofs.lemmas.List.Sums.{sum_by-cons}
+use Rattle.std.proofs.Common.{◌≡◌, ℕ, ◌≤◌, List, length, Some, None, arith}
 use Rattle.mv_base.specs.Bytes.{AreBytes}
-use Rattle.elf32_read.specs.declared.run.Run.{Run}
 use Rattle.elf32_read.specs.Faults.{load_refusal, limit_fault}
 use Rattle.elf32_read.specs.RunCount.{length-runs_of, bytes_len-runs_of, header_count-admitted, code_size-admitted}
 use Rattle.elf32_read.specs.Segments.{code_of-runs_of, AreApart-runs_of}
-use Rattle.mv_rewrite.specs.Layout.{base_of, plan_at}
-use Rattle.mv_rewrite.specs.File.{file_of}
+use Rattle.mv_rewrite.specs.Layout.{base_of}
 use Rattle.mv_rewrite.specs.Output.{output_at}
 use Rattle.mv_rewrite.specs.Stopping.{Simulates}
-use Rattle.mv_rewrite.proofs.Planned.{run_len, IsInput}
+use Rattle.mv_rewrite.proofs.Planned.{IsInput}
 use Rattle.mv_rewrite.proofs.Recorded.{frame_is}
 use Rattle.mv_rewrite.proofs.Relocating.{relocated}
 use Rattle.mv_rewrite.proofs.Simulating.{simulates}

@@ -1,5 +1,5 @@
 -- What rewriting a file gives. This project's own.
-use Rattle.std.specs.Prelude.{◌≡◌, ℕ, List, length, Option, Some, None, Result, Ok, Err}
+use Rattle.std.specs.Prelude.{◌≡◌, ℕ, List, length, Some, None, Result, Ok, Err}
 use Rattle.elf32_read.specs.Faults.{refusal}
 use Rattle.mv_rewrite.specs.declared.layout.LayFault.{LayFault}
 use Rattle.mv_rewrite.specs.declared.layout.LayFault.TheVariants as lay_fault

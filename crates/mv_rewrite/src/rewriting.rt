@@ -5,7 +5,7 @@ ghost use Rattle.elf32_read.specs.Faults.{limit_fault};
 ghost use Rattle.elf32_read.specs.Reading.{IsImage};
 ghost use Rattle.mv_rewrite.specs.Laying.{IsLaid};
 ghost use Rattle.mv_rewrite.specs.Layout.{size};
-ghost use Rattle.mv_rewrite.specs.Rewriting.{IsOutput, IsRewritten};
+ghost use Rattle.mv_rewrite.specs.Rewriting.{IsRewritten};
 ghost use Rattle.mv_rewrite.specs.Stopping.{Simulates};
 
 use crate::file::{added_len, write_image};
