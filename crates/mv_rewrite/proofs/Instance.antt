@@ -1,10 +1,10 @@
 -- The law on runs says something: a file, a start and an answer that meet its premises for three steps. The file is
 -- that of the worked example: `mov eax,1`, `mov ebx,7`, `int 0x80` at 0x08048054.
-use Rattle.std.proofs.Common.{◌≡◌, ℕ, zero, suc, ◌^◌, ◌<◌, ◌≤◌, true, false, List, [], ◌∷◌, length, Option, Some, None, is_some, slice_index, refl, arith, subst}
+use Rattle.std.proofs.Common.{◌≡◌, ℕ, zero, suc, ◌^◌, ◌<◌, true, false, List, [], ◌∷◌, Option, Some, None, is_some, slice_index, refl, arith, subst}
 use Rattle.std.specs.List.{AllByRecursion}
 use Rattle.mv_base.specs.Effects.{Answer, Ret, IsAnswer}
 use Rattle.x86_insn.specs.declared.flags.Flags.{Flags}
-use Rattle.x86_insn.specs.State.{Core, IsCore, State}
+use Rattle.x86_insn.specs.State.{State}
 use Rattle.elf32_read.specs.Faults.{refusal, load_refusal, limit_fault, head_fault, headers_fault, header_fault, segment_fault}
 use Rattle.mv_base.specs.Memory.{exec_bytes, first_failing, bytes_at}
 use Rattle.mv_base.specs.Bytes.{half_at, word_at, number}
