@@ -1,5 +1,5 @@
 -- From what was tried and what was reported, to what the answer means.
-use Rattle.std.proofs.Common.{◌≡◌, ℕ, ◌⊎◌, List, [], Option, Some, None, Result, Ok, Err, IsSomeAnd, IsTrue, Vec, Global, sym, ◌∙◌, ap, subst, inl, inr, append-nil}
+use Rattle.std.proofs.Common.{◌≡◌, ℕ, ◌⊎◌, List, [], Option, Some, None, Result, Ok, Err, IsSomeAnd, Vec, Global, sym, ◌∙◌, ap, subst, inl, inr, append-nil}
 use Rattle.mv_base.specs.Holding.{KeepsOrBegins}
 use Rattle.mv_base.specs.declared.status.Status.{Status}
 use Rattle.mv_base.specs.declared.status.Status.TheVariants.{Done, Usage, ReadFault, WriteFault, BadImage, NoRoom, BadLog, NoMemory, SinkFault, TooLarge}
