@@ -1,6 +1,6 @@
 //! The layout of the added block: where it lies, and what is where in it.
 
-ghost use Rattle.std.specs.Prelude.{◌≡◌, ◌+◌, ◌*◌, ◌^◌, ◌<◌, ◌≤◌, length, None, Some, IfOk};
+ghost use Rattle.std.specs.Prelude.{◌≡◌, ◌+◌, ◌*◌, ◌^◌, ◌≤◌, length, None, Some, IfOk};
 ghost use Rattle.elf32_read.specs.Faults.{limit_fault, load_refusal};
 ghost use Rattle.elf32_read.specs.Reading.{IsImage};
 ghost use Rattle.elf32_read.specs.Runs.{runs_of};

@@ -11,7 +11,7 @@ use mv_base::{Addrs, Bytes, NoMemory, RunPlace};
 use std::alloc::Global;
 use std::process::Abort;
 
-/// A file of the one form with two bytes of code.
+/// A file with two bytes of code.
 const INPUT: [u8; 86] = [
     0x7F, 0x45, 0x4C, 0x46, 1, 1, 1, 0, 0, 0, 0, 0, 0, 0, 0, 0, //
     2, 0, 3, 0, 1, 0, 0, 0, 0x54, 0x80, 0x04, 0x08, 52, 0, 0, 0, //
