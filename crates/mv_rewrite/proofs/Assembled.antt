@@ -18,20 +18,21 @@ use Rattle.elf32_read.specs.Reading.{IsImage, IsRead}
 use Rattle.elf32_read.specs.RunCount.{length-runs_of, header_count-admitted}
 use Rattle.elf32_read.specs.Runs.{runs_of, code_of}
 use Rattle.elf32_read.specs.Whole.{or_else-none, length-headers}
-use Rattle.mv_rewrite.specs.declared.plan.Plan.{Plan}
+use Rattle.elf32_write.specs.declared.plan.Plan.{Plan}
+use Rattle.elf32_write.specs.Format.{up}
+use Rattle.elf32_write.specs.File.{added_len, file_of}
+use Rattle.elf32_write.specs.Writing.{EndsLow}
 use Rattle.mv_rewrite.specs.declared.layout.LayFault.{LayFault}
 use Rattle.mv_rewrite.specs.declared.layout.LayFault.TheVariants as lay_fault
 use Rattle.mv_rewrite.specs.declared.rewriting.Rewritten.{Rewritten}
 use Rattle.mv_rewrite.specs.declared.rewriting.RewriteFault.{RewriteFault}
 use Rattle.mv_rewrite.specs.declared.site.Site.{Site}
 use Rattle.mv_rewrite.specs.Sites.{sites, sites_in}
-use Rattle.mv_rewrite.specs.Layout.{up, base_of, size, code_len, plan_at}
-use Rattle.mv_rewrite.specs.File.{added_len, file_of}
+use Rattle.mv_rewrite.specs.Layout.{base_of, size, code_len, plan_at}
 use Rattle.mv_rewrite.specs.Laying.{IsLaid, LaysOut}
 use Rattle.mv_rewrite.specs.Rewriting.{laid_fault, IsRewritten}
 use Rattle.mv_rewrite.specs.Output.{output, output_at}
 use Rattle.mv_rewrite.specs.Stopping.{Simulates}
-use Rattle.mv_rewrite.specs.Writing.{EndsLow}
 use Rattle.mv_rewrite.proofs.Planned.{length-code, length-table_of, length-counted, plan_runs, length-run_places, size_is, has_room_at}
 use Rattle.mv_rewrite.proofs.LayoutFacts.{sites_of_runs}
 use Rattle.mv_rewrite.proofs.Outputs.{simulated, image_input}

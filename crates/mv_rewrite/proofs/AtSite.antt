@@ -9,10 +9,10 @@ use Rattle.x86_insn.specs.Flow.{flow_of, falls}
 use Rattle.x86_insn.specs.State.{State, Outcome}
 use Rattle.x86_insn.specs.Step.{Found, fetch, fetch_in, executed, step}
 use Rattle.elf32_read.specs.Load.{load}
+use Rattle.elf32_write.specs.Frame.{Frame, frame_map}
 use Rattle.mv_rewrite.specs.declared.site.Site.{Site}
 use Rattle.mv_rewrite.specs.Sites.{site_found, code_in}
 use Rattle.mv_rewrite.specs.Pieces.{successor, jump_bytes, piece_of}
-use Rattle.mv_rewrite.specs.Frame.{Frame, frame_map}
 use Rattle.mv_rewrite.specs.Relocated.{StandAt, IsRelocated}
 use Rattle.mv_rewrite.specs.Simulation.{effects_by_flow, IsClearEffect, IsClearOutcome}
 use Rattle.mv_rewrite.proofs.DecodedAlike.{IsFound, is_found, found_len, found_copied}

@@ -3,7 +3,7 @@ use Rattle.std.proofs.Common.{◌≡◌, ℕ, zero, suc, ◌+◌, ◌^◌, ◌<�
 use Rattle.std.proofs.lemmas.Bool.{both_ways, cond-true, cond-false}
 use Rattle.std.proofs.lemmas.Option.{none-some}
 use Rattle.mv_base.specs.Memory.{Cell, Memory, cell_is, exec_byte_of, is_mapped, byte_of, address_after, first_failing, bytes_at}
-use Rattle.mv_rewrite.specs.Frame.{Frame, is_added}
+use Rattle.elf32_write.specs.Frame.{Frame, is_added}
 use Rattle.mv_rewrite.specs.Simulation.{shown, exec_cell}
 
 -- ---- cells

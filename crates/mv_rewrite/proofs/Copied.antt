@@ -13,7 +13,7 @@ use Rattle.x86_insn.specs.State.{Core, State, Kind, ReadFault, WriteFault, Trap,
 use Rattle.x86_insn.specs.Round.{Ask, Reads, Halts, Ends, round, limit}
 use Rattle.x86_insn.specs.Step.{Turn, Ended, Halted, unless_fault, answered, asks, turn, Rounds, Completed, Broken, after_turn, rounds, after_rounds, call_of, refused, after_effects, system, executed}
 use Rattle.elf32_read.specs.Load.{load}
-use Rattle.mv_rewrite.specs.Frame.{Frame, is_added}
+use Rattle.elf32_write.specs.Frame.{Frame, is_added}
 use Rattle.mv_rewrite.specs.Relocated.{IsRelocated}
 use Rattle.mv_rewrite.specs.Simulation.{first_effects, effects_by_flow, IsClearEffect, IsClearStop, IsClearOutcome}
 use Rattle.mv_rewrite.proofs.Cells.{may_write, shown_mapped, shown_writable, exec_alike, exec_same, write_mapped, IsClearFault, first_alike, first_passes, first_begins, bytes_alike}

@@ -6,7 +6,7 @@ use Rattle.std.proofs.lemmas.Option.{none-some, same_Some}
 use Rattle.mv_base.specs.Memory.{Cell, Memory, is_mapped, is_writable, is_executable, within, distance, put}
 use Rattle.mv_base.specs.Effects.{Mode, Read, Write, Exec, Effect, WriteAt, MapAt, UnmapAt, effect_lo, effect_len, IsEffect, is_write_mode, is_exec_mode, makes_code, applied, Refusal, Executable, first_touched, unmapped, unwritable, refused_access, refusal_of, Applied, AllApplied, RefusedAt, apply_next, apply_all}
 use Rattle.elf32_read.specs.Load.{load}
-use Rattle.mv_rewrite.specs.Frame.{Frame, is_added}
+use Rattle.elf32_write.specs.Frame.{Frame, is_added}
 use Rattle.mv_rewrite.specs.Relocated.{IsRelocated}
 use Rattle.mv_rewrite.specs.Simulation.{IsClearEffect, shown}
 use Rattle.mv_rewrite.proofs.Cells.{may_execute, shown_mapped, shown_writable, exec_alike, first_same}

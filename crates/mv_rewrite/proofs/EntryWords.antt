@@ -1,48 +1,20 @@
 -- The table's entries, and the slots that they name.
-use Rattle.std.proofs.Common.{◌≡◌, ℕ, zero, suc, ◌+◌, ◌-◌, ◌*◌, ◌^◌, ◌<◌, ◌≤◌, true, false, cond, ltb, leb, List, [], ◌∷◌, ◌++◌, length, get_or, drop, map, Option, Some, None, refl, sym, ap, ◌∙◌, subst, inl, inr, arith, append_assoc}
+use Rattle.std.proofs.Common.{◌≡◌, ℕ, ◌+◌, ◌-◌, ◌*◌, ◌^◌, ◌<◌, true, false, cond, List, [], ◌∷◌, ◌++◌, length, get_or, map, Option, Some, None, refl, sym, ap, ◌∙◌, subst, inl, inr, arith, append_assoc}
 use Rattle.std.specs.Prelude.{slice_get}
 use Rattle.std.proofs.lemmas.List.{length-append, length-map, get_or-map, get_or-append-add, get_or_append_left}
 use Rattle.std.proofs.lemmas.List.FromFn.{length-range_with_len, get_or-range_with_len}
-use Rattle.std.proofs.Math.Seq.{drop-append-add}
-use Rattle.std.proofs.lemmas.Bool.{leb-true, ltb-true, and_parts, cases_Bool}
+use Rattle.std.proofs.lemmas.Bool.{cases_Bool}
 use Rattle.std.proofs.lemmas.Option.{slice_get-get_or}
-use Rattle.byteorder.specs.Endian.{little_bytes, little_number}
-use Rattle.byteorder.specs.Numbers.{little_number-reads_back, length-bytes_low_first}
 use Rattle.mv_base.specs.declared.range.RunPlace.{RunPlace}
 use Rattle.mv_base.specs.Bytes.{word_at, words}
 use Rattle.mv_base.specs.Memory.{within}
 use Rattle.mv_base.specs.Table.{run_of, flat_word}
 use Rattle.elf32_read.specs.declared.run.Run.{Run}
 use Rattle.elf32_read.specs.Runs.{code_of}
+use Rattle.elf32_write.specs.Words.{word_at-words}
+use Rattle.elf32_write.specs.Within.{within_parts}
 use Rattle.mv_rewrite.specs.Sites.{addresses, run_addresses}
 use Rattle.mv_rewrite.specs.Layout.{run_places}
-
--- ---- words
-
-pub length-words : (ns : List ℕ) → length (words ns) ≡ 4 * length ns
-unfolding words
-length-words [] = refl
-length-words (n ∷ ns) =
-    let one = length-bytes_low_first 0 4 n in
-    omega (arith, length-append (little_bytes 4 n) (words ns), length-words ns)
-
--- the k-th of some words
-pub word_at-words : (ns : List ℕ) (k : ℕ) → k < length ns → get_or ns k 0 < 2 ^ 32 → word_at (words ns) (4 * k) ≡ get_or ns k 0
-unfolding words word_at
-word_at-words [] k lt fits = absurd (omega arith)
-word_at-words (n ∷ ns) zero lt fits = little_number-reads_back 4 n (words ns) fits
-word_at-words (n ∷ ns) (suc k) lt fits =
-    let e : 4 * suc k ≡ length (little_bytes 4 n) + 4 * k = omega (arith, length-bytes_low_first 0 4 n) in
-    ap (λ p. little_number 4 (drop p (little_bytes 4 n ++ words ns))) e
-    ∙ ap (λ (xs : List ℕ). little_number 4 xs) (drop-append-add (little_bytes 4 n) (words ns) (4 * k))
-    ∙ word_at-words ns k (omega arith) fits
-
--- ---- the table of runs
-
-pub within_parts : (lo len a : ℕ) → within lo len a ≡ true → (lo ≤ a) × (a < lo + len)
-within_parts lo len a h =
-    let p = and_parts (leb lo a) (ltb a (lo + len)) h in
-    (leb-true lo a p.0, ltb-true a (lo + len) p.1)
 
 abbrev pub entry_where : {X : Type 0} → Option X → ℕ → ℕ
 entry_where None n = 0

@@ -7,7 +7,7 @@ use Rattle.elf32_read.specs.declared.fault.ImageFault.TheVariants.{Interpreter, 
 use Rattle.elf32_read.specs.declared.image.Phdr.{Phdr}
 use Rattle.elf32_read.specs.Fields.{is_load, maps, has_exec, has_write, has_read}
 use Rattle.elf32_read.specs.Faults.{or_else, segment_fault, header_fault}
-use Rattle.mv_rewrite.specs.File.{head_len, kept_header}
+use Rattle.elf32_write.specs.File.{head_len, kept_header}
 
 -- ---- chains of tests
 

@@ -15,7 +15,7 @@ use Rattle.x86_insn.specs.Round.{round, limit, hop}
 use Rattle.x86_insn.specs.Spelling.{decoded, first_spelled, spelled}
 use Rattle.elf32_read.specs.Load.{load, segment_cell}
 use Rattle.elf32_read.specs.Fields.{headers, header_at, segments}
-use Rattle.mv_rewrite.specs.Frame.{Frame}
+use Rattle.elf32_write.specs.Frame.{Frame}
 use Rattle.mv_rewrite.specs.Simulation.{Start, IsStart, run_state, IsClear, IsClearStep}
 
 abbrev pub file : List ℕ

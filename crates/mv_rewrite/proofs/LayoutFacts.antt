@@ -13,12 +13,13 @@ use Rattle.elf32_read.specs.Runs.{runs_of, code_of, AreApart}
 use Rattle.elf32_read.specs.RunCount.{bytes_len-runs_of, code_size-admitted}
 use Rattle.elf32_read.specs.Segments.{code_of-runs_of, AreApart-runs_of}
 use Rattle.elf32_read.specs.Whole.{Ascends, Ascends-whole}
+use Rattle.elf32_write.specs.declared.plan.Plan.{Plan}
+use Rattle.elf32_write.specs.Format.{up}
 use Rattle.mv_rewrite.specs.declared.site.Site.{Site}
-use Rattle.mv_rewrite.specs.declared.plan.Plan.{Plan}
 use Rattle.mv_rewrite.specs.declared.table.AddressTable.{AddressTable}
 use Rattle.mv_rewrite.specs.Sites.{code_in, sites, sites_in, addresses}
 use Rattle.mv_rewrite.specs.Pieces.{slots}
-use Rattle.mv_rewrite.specs.Layout.{up, size, places, entry_in, moved, has_room, lowest, first_fit, base_of, plan_at, table, run_places}
+use Rattle.mv_rewrite.specs.Layout.{size, places, entry_in, moved, has_room, lowest, first_fit, base_of, plan_at, table, run_places}
 use Rattle.mv_rewrite.specs.Laying.{IsLaid}
 use Rattle.mv_rewrite.specs.Lookup.{Ascend, IsTable, HasWords, table_entry, table_move}
 use Rattle.mv_rewrite.specs.Room.{ArePagesApart}

@@ -13,8 +13,6 @@ pub mod LayoutFacts
 -- what stands where in an output, and how it loads, lowest first
 pub mod EntryWords
 pub mod SlotPlaces
-pub mod HeadBytes
-pub mod RecordRuns
 pub mod Placed
 pub mod Parts
 pub mod Written

@@ -3,7 +3,7 @@ use Rattle.std.proofs.Common.{◌≡◌, ℕ, ◌+◌, ◌^◌, ◌<◌, Bool, t
 use Rattle.std.proofs.lemmas.Bool.{both_ways, and_parts, ltb-true, cond-false, cases_Bool}
 use Rattle.mv_base.specs.Memory.{Cell, Memory, is_mapped, is_executable, distance, with_byte, put}
 use Rattle.elf32_read.specs.Load.{load}
-use Rattle.mv_rewrite.specs.Frame.{Frame, is_added, is_private}
+use Rattle.elf32_write.specs.Frame.{Frame, is_added, is_private}
 use Rattle.mv_rewrite.specs.Relocated.{IsRelocated}
 use Rattle.mv_rewrite.specs.Simulation.{shown, marks, exec_cell}
 use Rattle.mv_rewrite.proofs.Cells.{may_execute, exec_cell_none, exec_alike, exec_mapped}

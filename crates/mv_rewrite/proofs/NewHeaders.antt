@@ -4,8 +4,8 @@ use Rattle.std.proofs.lemmas.Bool.{cases_Bool, ltb-true, ltb-false, and_parts, c
 use Rattle.elf32_read.specs.declared.image.Phdr.{Phdr}
 use Rattle.elf32_read.specs.Fields.{maps}
 use Rattle.elf32_read.specs.Faults.{or_else, header_fault, headers_fault, free_after}
-use Rattle.mv_rewrite.specs.Layout.{up}
-use Rattle.mv_rewrite.specs.File.{kept_header, added_header, with_added}
+use Rattle.elf32_write.specs.Format.{up}
+use Rattle.elf32_write.specs.File.{kept_header, added_header, with_added}
 use Rattle.mv_rewrite.proofs.Fine.{neither, IsFine, fine_is, fine_none, fine_more, is_kept, kept_maps, kept_fine}
 
 -- ---- the block and its headers

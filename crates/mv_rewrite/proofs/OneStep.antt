@@ -13,8 +13,8 @@ use Rattle.x86_insn.specs.State.{State, Stop, Outcome, Next, Stopped}
 use Rattle.x86_insn.specs.Round.{hop}
 use Rattle.x86_insn.specs.Step.{Fetched, Absent, Found, Unknown, fetch, turn, after_hop, executed, stepped, step}
 use Rattle.x86_insn.specs.Run.{next_of, next_state, state_after}
+use Rattle.elf32_write.specs.Frame.{Frame, frame_map}
 use Rattle.mv_rewrite.specs.Pieces.{jump_bytes}
-use Rattle.mv_rewrite.specs.Frame.{Frame, frame_map}
 use Rattle.mv_rewrite.specs.Relocated.{StandAt, IsRelocated}
 use Rattle.mv_rewrite.specs.Simulation.{effects_of, effects_by_flow, IsClearEffect, IsClearOutcome, IsClearStep, Agree, step_bound}
 use Rattle.mv_rewrite.specs.Stopping.{ShowsSame}

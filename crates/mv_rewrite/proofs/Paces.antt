@@ -10,7 +10,7 @@ use Rattle.x86_insn.specs.State.{State, Outcome, Next, Stopped}
 use Rattle.x86_insn.specs.Step.{step}
 use Rattle.x86_insn.specs.Run.{next_of, next_state, state_after}
 use Rattle.elf32_read.specs.Load.{load}
-use Rattle.mv_rewrite.specs.Frame.{Frame, is_added}
+use Rattle.elf32_write.specs.Frame.{Frame, is_added}
 use Rattle.mv_rewrite.specs.Relocated.{without_exec, IsRelocated}
 use Rattle.mv_rewrite.specs.Simulation.{Start, IsStart, begin, run_state, IsClear, shown, marks, exec_cell, Agree, executions, BothAre, AgreeAt, newest, IsPace, step_bound, FollowsIn, Follows}
 use Rattle.mv_rewrite.specs.Stopping.{ShowsSame, ShowsAt, QuietPace}

@@ -3,14 +3,12 @@ use Rattle.std.proofs.Common.{◌≡◌, ℕ, ◌+◌, ◌-◌, ◌*◌, ◌^◌
 use Rattle.std.specs.Prelude.{slice_index, replicate}
 use Rattle.std.specs.List.{flat_map, range_with_len, AllByRecursion}
 use Rattle.std.proofs.lemmas.List.{length-append, length-replicate, get_or_append_left, get_or-append-add, get_or-drop}
-use Rattle.std.proofs.lemmas.List.Concat.{flat_map-append}
-use Rattle.byteorder.specs.Endian.{little_bytes}
 use Rattle.mv_base.specs.Bytes.{word_at, half_at, words}
 use Rattle.elf32_read.specs.declared.image.Phdr.{Phdr}
 use Rattle.elf32_read.specs.Fields.{header_at}
-use Rattle.mv_rewrite.specs.Pieces.{filled}
-use Rattle.mv_rewrite.specs.File.{header_words}
-use Rattle.mv_rewrite.proofs.EntryWords.{length-words, word_at-words}
+use Rattle.elf32_write.specs.Format.{filled}
+use Rattle.elf32_write.specs.File.{header_words}
+use Rattle.elf32_write.specs.Words.{length-words, word_at-words, words-append}
 
 -- a part stands at a place of a list
 pub record Stands (x : List ℕ) (p : ℕ) (part : List ℕ) : Type 0 where
@@ -80,10 +78,6 @@ word_in x ns p k s lt fits =
     let e : p + 4 * k + j ≡ p + (4 * k + j) = omega arith in
     ap (slice_index x) e ∙ s.byte (4 * k + j) (omega (arith, below, lt, length-words ns)))
     ∙ word_at-words ns k lt fits
-
-pub words-append : (ms ns : List ℕ) → words (ms ++ ns) ≡ words ms ++ words ns
-unfolding words
-words-append ms ns = flat_map-append (little_bytes 4) ms ns
 
 -- ---- program headers
 

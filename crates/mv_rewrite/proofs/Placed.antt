@@ -9,11 +9,12 @@ use Rattle.mv_base.specs.Memory.{exec_byte_of, cell_is}
 use Rattle.mv_base.specs.Table.{entry_or, flat_entry, flat_word, run_of}
 use Rattle.elf32_read.specs.Load.{load}
 use Rattle.elf32_read.specs.Runs.{runs_of, code_of}
+use Rattle.elf32_write.specs.Format.{up, private_len}
+use Rattle.elf32_write.specs.Frame.{Frame, frame_map, frame_entry, frame_table}
 use Rattle.mv_rewrite.specs.declared.site.Site.{Site}
 use Rattle.mv_rewrite.specs.Sites.{site_at, code_in, addresses, sites, sites_in}
 use Rattle.mv_rewrite.specs.Pieces.{piece, with_join, slot_len, slot}
-use Rattle.mv_rewrite.specs.Layout.{up, entry_in, moved, table, run_places, code_len, table_len, private_len, size, pairs_at, plan_at}
-use Rattle.mv_rewrite.specs.Frame.{Frame, frame_map, frame_entry, frame_table}
+use Rattle.mv_rewrite.specs.Layout.{entry_in, moved, table, run_places, code_len, table_len, size, pairs_at, plan_at}
 use Rattle.mv_rewrite.specs.Relocated.{StandAt, PieceAt}
 use Rattle.mv_rewrite.proofs.EntryWords.{entry_where, flat_in}
 use Rattle.mv_rewrite.proofs.SlotPlaces.{IsSiteAt, is_site_at, length-with_join, HasSlot, has_slot, no_entry, length-slots, entry_in-le, address_among}

@@ -18,10 +18,11 @@ use Rattle.elf32_read.specs.Faults.{or_else, fault_if, head_fault, headers_fault
 use Rattle.elf32_read.specs.declared.fault.ImageFault.TheVariants.{ShortHeader, NoLoad}
 use Rattle.elf32_read.specs.Runs.{runs_of, code_of}
 use Rattle.elf32_read.specs.Runs as runs
+use Rattle.elf32_write.specs.Format.{up}
+use Rattle.elf32_write.specs.File.{head_len, code_place, table_of, kept_header, added_header, with_added, new_headers, file_of}
+use Rattle.elf32_write.specs.Words.{length-words}
 use Rattle.mv_rewrite.specs.Sites.{code_in, addresses, run_addresses, sites, sites_in}
-use Rattle.mv_rewrite.specs.Layout.{up, moved, entry_in, is_apart, has_room, lowest, first_fit, base_of, size, code_len, table_len, pairs_at, run_places, table, plan_at}
-use Rattle.mv_rewrite.specs.File.{head_len, code_place, table_of, kept_header, added_header, with_added, new_headers, file_of}
-use Rattle.mv_rewrite.proofs.EntryWords.{length-words}
+use Rattle.mv_rewrite.specs.Layout.{moved, entry_in, is_apart, has_room, lowest, first_fit, base_of, size, code_len, table_len, pairs_at, run_places, table, plan_at}
 use Rattle.mv_rewrite.proofs.SlotPlaces.{length-slots, entry_in-le}
 use Rattle.mv_rewrite.proofs.Parts.{IsHeader}
 use Rattle.mv_rewrite.proofs.Written.{IsWritable, IsWritten, written}

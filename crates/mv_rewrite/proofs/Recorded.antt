@@ -10,11 +10,12 @@ use Rattle.mv_base.specs.declared.range.RunPlace.{RunPlace}
 use Rattle.elf32_read.specs.declared.run.Run.{Run}
 use Rattle.elf32_read.specs.Runs.{runs_of}
 use Rattle.elf32_read.specs.Runs as runs
-use Rattle.mv_rewrite.specs.Layout.{up, code_len, table_len, private_len, run_places, plan_at}
-use Rattle.mv_rewrite.specs.File.{head_len, code_place, table_of, record_words, place_words, frame_magic, file_of}
-use Rattle.mv_rewrite.specs.Frame.{Frame, field, run_place_at, frame_at, has_record, has_places, has_block, has_runs, has_size, keeps_rules, frame, frame_table}
-use Rattle.mv_rewrite.proofs.EntryWords.{length-words}
-use Rattle.mv_rewrite.proofs.Parts.{Stands, stands_first, stands_second, word_in, words-append}
+use Rattle.elf32_write.specs.Format.{up, private_len}
+use Rattle.elf32_write.specs.File.{head_len, code_place, table_of, record_words, place_words, frame_magic, file_of}
+use Rattle.elf32_write.specs.Frame.{Frame, field, run_place_at, frame_at, has_record, has_places, has_block, has_runs, has_size, keeps_rules, frame, frame_table}
+use Rattle.elf32_write.specs.Words.{length-words, words-append}
+use Rattle.mv_rewrite.specs.Layout.{code_len, table_len, run_places, plan_at}
+use Rattle.mv_rewrite.proofs.Parts.{Stands, stands_first, stands_second, word_in}
 use Rattle.mv_rewrite.proofs.Planned.{length-code, length-table, length-table_of, size_is, length-run_places, run_len, length-addresses, IsInput, room, wrote, length-output}
 
 -- the part that stands at a place is what is taken from there

@@ -6,11 +6,12 @@ use Rattle.elf32_read.specs.declared.image.Phdr.{Phdr}
 use Rattle.elf32_read.specs.Fields.{headers, entry_at, is_load, maps, has_write, has_exec}
 use Rattle.elf32_read.specs.Faults.{headers_fault, free_after}
 use Rattle.elf32_read.specs.Load.{load}
-use Rattle.mv_rewrite.specs.Layout.{up, code_len, table_len, plan_at}
-use Rattle.mv_rewrite.specs.File.{with_added, file_of}
-use Rattle.mv_rewrite.specs.Frame.{is_added, is_private}
+use Rattle.elf32_write.specs.Format.{up}
+use Rattle.elf32_write.specs.File.{with_added, file_of}
+use Rattle.elf32_write.specs.Frame.{is_added, is_private}
+use Rattle.elf32_write.specs.Within.{within_parts}
+use Rattle.mv_rewrite.specs.Layout.{code_len, table_len, plan_at}
 use Rattle.mv_rewrite.specs.Relocated.{IsRelocated, without_exec}
-use Rattle.mv_rewrite.proofs.EntryWords.{within_parts}
 use Rattle.mv_rewrite.proofs.Placed.{IsPlaced, map_is, others, mapped, pieces}
 use Rattle.mv_rewrite.proofs.Fine.{IsFine}
 use Rattle.mv_rewrite.proofs.NewHeaders.{Block, IsBlock, block_headers, AreApart, fine_parts}

@@ -5,9 +5,9 @@ use Rattle.std.proofs.lemmas.Option.{same_Some}
 use Rattle.mv_base.specs.Effects.{Answer, IsAnswer}
 use Rattle.x86_insn.specs.State.{State, Stop, FetchFault, Trap, Outside, Outcome, Next, Stopped}
 use Rattle.x86_insn.specs.Step.{Fetched, Absent, Found, Unknown, fetch, stepped, step}
+use Rattle.elf32_write.specs.Frame.{Frame, frame}
 use Rattle.mv_rewrite.specs.declared.site.Site.{Site}
 use Rattle.mv_rewrite.specs.Sites.{site_found, site_at, code_in}
-use Rattle.mv_rewrite.specs.Frame.{Frame, frame}
 use Rattle.mv_rewrite.specs.Relocated.{IsRelocated}
 use Rattle.mv_rewrite.specs.Simulation.{Start, IsStart, run_state, IsClear, IsClearStep, Agree, newest}
 use Rattle.mv_rewrite.specs.Stopping.{ShowsSame, QuietIn, StopsSame, StopsAs, StopsIn, Simulates}

@@ -16,11 +16,12 @@ use Rattle.x86_insn.specs.Spelling.{spelled, or_else, with_len, first_spelled, d
 use Rattle.x86_insn.specs.Step.{Fetched, Absent, Found, Unknown, fetched, fetch_in}
 use Rattle.elf32_read.specs.declared.run.Run.{Run}
 use Rattle.elf32_read.specs.Runs.{code_of}
+use Rattle.elf32_write.specs.Within.{within_parts}
 use Rattle.mv_rewrite.specs.declared.site.Site.{Site}
 use Rattle.mv_rewrite.specs.Sites.{addresses, run_addresses, site_found, site_at}
 use Rattle.mv_rewrite.specs.Pieces.{jump_bytes, target, successor, piece_of, piece, join, with_join, slot_len, slot, slots}
 use Rattle.mv_rewrite.specs.Layout.{entry_in, places}
-use Rattle.mv_rewrite.proofs.EntryWords.{within_parts, code_beyond}
+use Rattle.mv_rewrite.proofs.EntryWords.{code_beyond}
 
 -- ---- lengths
 

@@ -7,8 +7,9 @@ use Rattle.mv_base.specs.Memory.{exec_bytes}
 use Rattle.mv_base.specs.Bytes.{word}
 use Rattle.elf32_read.specs.declared.run.Run.{Run}
 use Rattle.elf32_read.specs.Runs.{code_of, AreApart}
+use Rattle.elf32_write.specs.Format.{filled}
 use Rattle.mv_rewrite.specs.declared.site.Site.{Site}
-use Rattle.mv_rewrite.specs.Pieces.{jump_bytes, filled, slot, slots, with_join, piece, join}
+use Rattle.mv_rewrite.specs.Pieces.{jump_bytes, slot, slots, with_join, piece, join}
 use Rattle.mv_rewrite.specs.Layout.{places}
 use Rattle.mv_rewrite.specs.Slots.{AreShort}
 use Rattle.mv_rewrite.proofs.RunSites.{exec_none, exec_some, exec_zero, exec_same, exec_run, byte_cases, code_below, code_first, code_later, outside_below, run_byte}

@@ -11,7 +11,7 @@ use Rattle.x86_insn.specs.Flow.{flow_of}
 use Rattle.x86_insn.specs.State.{State, Outcome, Next, Stopped}
 use Rattle.x86_insn.specs.Round.{limit, hop}
 use Rattle.x86_insn.specs.Step.{Fetched, Absent, Found, Unknown, fetch, Turn, Ended, Halted, turn, Rounds, Completed, Broken, rounds, after_rounds, after_hop, after_effects, system, executed, stepped, step}
-use Rattle.mv_rewrite.specs.Frame.{Frame, frame_map}
+use Rattle.elf32_write.specs.Frame.{Frame, frame_map}
 use Rattle.mv_rewrite.specs.Simulation.{Agree}
 use Rattle.mv_rewrite.proofs.Likeness.{Alike}
 use Rattle.mv_rewrite.proofs.Copied.{StatesAlike}

@@ -7,8 +7,8 @@ use Rattle.x86_insn.specs.declared.insn.Insn.TheVariants as insn
 use Rattle.x86_insn.specs.State.{State, Next}
 use Rattle.x86_insn.specs.Step.{Found, fetch, fetch_in, stepped, step}
 use Rattle.elf32_read.specs.Load.{load}
+use Rattle.elf32_write.specs.Frame.{Frame, is_added, is_private}
 use Rattle.mv_rewrite.specs.Pieces.{jump_bytes}
-use Rattle.mv_rewrite.specs.Frame.{Frame, is_added, is_private}
 use Rattle.mv_rewrite.specs.Relocated.{StandAt, IsRelocated}
 use Rattle.mv_rewrite.proofs.Likeness.{added_low}
 use Rattle.mv_rewrite.proofs.NearJump.{reach, jump_len, jump_found, jump_goes}

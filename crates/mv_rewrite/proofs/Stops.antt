@@ -11,8 +11,8 @@ use Rattle.x86_insn.specs.Flow.{flow_of}
 use Rattle.x86_insn.specs.Spelling.{Kind, MovImm, NopKind, JumpNear, SystemCall, Halt, Row, rows, meaning, decoded, spelled_from, spelled_by_row, or_else, spelled_by, spelled}
 use Rattle.x86_insn.specs.State.{State, Stop, FetchFault, Trap, Outcome, Stopped}
 use Rattle.x86_insn.specs.Step.{Fetched, Absent, Found, Unknown, fetch, fetch_in, fetched, executed, stepped, step}
+use Rattle.elf32_write.specs.Frame.{Frame, frame_map, is_added}
 use Rattle.mv_rewrite.specs.Sites.{site_found, site_at, code_in}
-use Rattle.mv_rewrite.specs.Frame.{Frame, frame_map, is_added}
 use Rattle.mv_rewrite.specs.Relocated.{IsRelocated}
 use Rattle.mv_rewrite.specs.Simulation.{effects_of, effects_by_flow, IsClearEffect, IsClearStop, IsClearOutcome, IsClearStep, Agree}
 use Rattle.mv_rewrite.proofs.Cells.{may_execute}

@@ -11,12 +11,11 @@ use Rattle.mv_base.specs.declared.range.RunPlace.{RunPlace}
 use Rattle.elf32_read.specs.declared.image.Phdr.{Phdr}
 use Rattle.elf32_read.specs.Fields.{header_at, headers, header_offset, header_count, entry_at, ident_rest}
 use Rattle.elf32_read.specs.Faults.{head_fault}
-use Rattle.mv_rewrite.specs.declared.plan.Plan.{Plan}
-use Rattle.mv_rewrite.specs.Pieces.{filled}
-use Rattle.mv_rewrite.specs.Layout.{up}
-use Rattle.mv_rewrite.specs.File.{padded, table_of, code_place, new_headers, header_words, elf_header, record_words, place_words, head, file_of}
-use Rattle.mv_rewrite.proofs.EntryWords.{length-words}
-use Rattle.mv_rewrite.proofs.Parts.{Stands, stands_whole, stands_left, stands_right, stands_in, stands_first, stands_second, IsHeader, headers_in, words-append, stands_filled, length-filled}
+use Rattle.elf32_write.specs.declared.plan.Plan.{Plan}
+use Rattle.elf32_write.specs.Format.{filled, up}
+use Rattle.elf32_write.specs.File.{padded, table_of, code_place, new_headers, header_words, elf_header, record_words, place_words, head, file_of}
+use Rattle.elf32_write.specs.Words.{length-words, words-append}
+use Rattle.mv_rewrite.proofs.Parts.{Stands, stands_whole, stands_left, stands_right, stands_in, stands_first, stands_second, IsHeader, headers_in, stands_filled, length-filled}
 
 -- what a plan has to keep so that its file can be read again
 pub record IsWritable (b : List ℕ) (p : Plan) : Type 0 where

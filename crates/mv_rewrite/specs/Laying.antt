@@ -1,6 +1,6 @@
 -- What laying out a file gives. This project's own.
 use Rattle.std.specs.Prelude.{◌≡◌, ℕ, List, Some, None, Result, Ok, Err}
-use Rattle.mv_rewrite.specs.declared.plan.Plan.{Plan}
+use Rattle.elf32_write.specs.declared.plan.Plan.{Plan}
 use Rattle.mv_rewrite.specs.declared.layout.LayFault.{LayFault}
 use Rattle.mv_rewrite.specs.declared.layout.LayFault.TheVariants.{NoRoom, NoMemory}
 use Rattle.mv_rewrite.specs.Layout.{base_of, size, plan_at}

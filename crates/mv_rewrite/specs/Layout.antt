@@ -9,14 +9,11 @@ use Rattle.elf32_read.specs.declared.image.Segment.{Segment}
 use Rattle.elf32_read.specs.declared.run.Run.{Run}
 use Rattle.elf32_read.specs.Fields.{entry_at, segments}
 use Rattle.elf32_read.specs.Runs.{runs_of}
+use Rattle.elf32_write.specs.Format.{up, private_len}
+use Rattle.elf32_write.specs.declared.plan.Plan.{Plan}
 use Rattle.mv_rewrite.specs.declared.site.Site.{Site}
-use Rattle.mv_rewrite.specs.declared.plan.Plan.{Plan}
 use Rattle.mv_rewrite.specs.Sites.{code_in, addresses, sites}
 use Rattle.mv_rewrite.specs.Pieces.{slot_len, slots}
-
--- a number raised to a multiple of 4,096
-abbrev pub up : ℕ → ℕ
-up n = (n + 4095) / 4096 * 4096
 
 -- the places of sites' slots, from an address on: pairs of a site's address and its place
 unfoldable pub places : ℕ → List Site → List (ℕ × ℕ)
@@ -41,15 +38,12 @@ run_places dir (r ∷ rs) = record { lo = r.lo; len = length r.bytes; dir = dir 
 unfoldable pub table : List (ℕ × ℕ) → List Run → List ℕ
 table pairs rs = words (map (entry_in pairs) (addresses rs))
 
--- the lengths of the code, of the table, and of the private area with its counters
+-- the lengths of the code and of the table
 abbrev pub code_len : List ℕ → ℕ
 code_len b = slot_len * length (sites b)
 
 abbrev pub table_len : List ℕ → ℕ
 table_len b = 4 * length (addresses (runs_of b))
-
-abbrev pub private_len : ℕ → ℕ
-private_len counters = 64 + 8 * counters
 
 -- the size of the added block, a multiple of 4,096
 unfoldable pub size : List ℕ → ℕ

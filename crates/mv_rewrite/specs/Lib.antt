@@ -7,11 +7,7 @@ pub mod Layout
 pub mod Lookup
 pub mod Room
 pub mod Slots
-pub mod File
-pub mod Writing
 pub mod Output
-pub mod Frame
-pub mod Framing
 pub mod Relocated
 pub mod Simulation
 pub mod Stopping

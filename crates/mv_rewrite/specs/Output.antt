@@ -1,8 +1,8 @@
 -- The one output of an input. This project's own.
 use Rattle.std.specs.Prelude.{ℕ, List, Option}
 use Rattle.std.specs.Option.{option_map}
+use Rattle.elf32_write.specs.File.{file_of}
 use Rattle.mv_rewrite.specs.Layout.{base_of, plan_at}
-use Rattle.mv_rewrite.specs.File.{file_of}
 
 -- the output for a block at this base
 abbrev pub output_at : List ℕ → ℕ → List ℕ

@@ -1,5 +1,5 @@
 -- The code that stands for a site. This project's own.
-use Rattle.std.specs.Prelude.{ℕ, ◌+◌, ◌-◌, ◌%◌, ◌^◌, List, [], ◌∷◌, ◌++◌, length, replicate, Option, if◌then◌else◌}
+use Rattle.std.specs.Prelude.{ℕ, ◌+◌, ◌%◌, ◌^◌, List, [], ◌∷◌, ◌++◌, length, Option, if◌then◌else◌}
 use Rattle.mv_base.specs.Bytes.{word}
 use Rattle.mv_base.specs.Memory.{exec_bytes, distance, address_after}
 use Rattle.x86_insn.specs.declared.insn.Insn.{Insn}
@@ -7,6 +7,7 @@ use Rattle.x86_insn.specs.declared.insn.Insn.TheVariants as insn
 use Rattle.x86_insn.specs.declared.insn.Flow.{Flow}
 use Rattle.x86_insn.specs.declared.insn.Flow.TheVariants.{Plain, Jump, Branch, Count, Call, JumpVia, CallVia, Return, Trap, System}
 use Rattle.x86_insn.specs.Flow.{flow_of, falls}
+use Rattle.elf32_write.specs.Format.{filled}
 use Rattle.mv_rewrite.specs.declared.site.Site.{Site}
 
 -- the address after a site's instruction
@@ -45,10 +46,6 @@ piece move code here s = piece_of (flow_of s.insn) move code here s
 -- a jump to where the successor now is, from an address on, if the instruction may go on there
 abbrev pub join : (ℕ → ℕ) → ℕ → Site → List ℕ
 join move here s = if falls (flow_of s.insn) then jump_bytes here (move (successor s)) else []
-
--- a list with zeros behind it up to a length
-abbrev pub filled : ℕ → List ℕ → List ℕ
-filled n xs = xs ++ replicate (n - length xs) 0
 
 -- how many bytes a slot has
 abbrev pub slot_len : ℕ

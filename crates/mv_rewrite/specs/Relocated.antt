@@ -5,10 +5,10 @@ use Rattle.mv_base.specs.Memory.{Cell, exec_byte, is_writable, is_executable}
 use Rattle.elf32_read.specs.Fields.{entry_at}
 use Rattle.elf32_read.specs.Faults.{load_refusal}
 use Rattle.elf32_read.specs.Load.{load}
+use Rattle.elf32_write.specs.Frame.{Frame, frame, frame_map, is_added, is_private}
 use Rattle.mv_rewrite.specs.declared.site.Site.{Site}
 use Rattle.mv_rewrite.specs.Sites.{site_at, code_in}
 use Rattle.mv_rewrite.specs.Pieces.{piece, with_join}
-use Rattle.mv_rewrite.specs.Frame.{Frame, frame, frame_map, is_added, is_private}
 
 -- a cell that may not be executed
 abbrev pub idle_cell : Cell → Cell

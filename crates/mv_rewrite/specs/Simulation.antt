@@ -15,7 +15,7 @@ use Rattle.x86_insn.specs.Run.{state_after}
 use Rattle.elf32_read.specs.Fields.{entry_at}
 use Rattle.elf32_read.specs.Faults.{load_refusal}
 use Rattle.elf32_read.specs.Load.{load}
-use Rattle.mv_rewrite.specs.Frame.{Frame, frame, frame_map, is_added, is_private, counted_at, counter_place}
+use Rattle.elf32_write.specs.Frame.{Frame, frame, frame_map, is_added, is_private, counted_at, counter_place}
 
 -- ---- starts and runs
 

@@ -6,9 +6,9 @@ use Rattle.mv_base.specs.Memory.{bytes_at}
 use Rattle.mv_base.specs.Effects.{Answer, IsAnswer}
 use Rattle.x86_insn.specs.State.{State, FetchFault, Stop, Trap, Outside, Stopped}
 use Rattle.x86_insn.specs.Step.{step}
+use Rattle.elf32_write.specs.Frame.{Frame, frame, is_added, counted_at, counter_place}
 use Rattle.mv_rewrite.specs.declared.site.Site.{Site}
 use Rattle.mv_rewrite.specs.Sites.{site_at, code_in}
-use Rattle.mv_rewrite.specs.Frame.{Frame, frame, is_added, counted_at, counter_place}
 use Rattle.mv_rewrite.specs.Simulation.{Start, IsStart, run_state, IsClear, shown, executions, BothAre, AgreeAt, newest, IsPace, step_bound, Follows}
 
 -- ---- what is shown

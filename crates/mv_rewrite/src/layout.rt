@@ -4,17 +4,18 @@ ghost use Rattle.std.specs.Prelude.{◌≡◌, ◌+◌, ◌*◌, ◌^◌, ◌≤
 ghost use Rattle.elf32_read.specs.Faults.{limit_fault, load_refusal};
 ghost use Rattle.elf32_read.specs.Reading.{IsImage};
 ghost use Rattle.elf32_read.specs.Runs.{runs_of};
+ghost use Rattle.elf32_write.specs.Format.{up as up_of};
 ghost use Rattle.mv_rewrite.specs.Laying.{IsLaid, LaysOut};
-ghost use Rattle.mv_rewrite.specs.Layout.{up as up_of, size as size_of, base_of};
+ghost use Rattle.mv_rewrite.specs.Layout.{size as size_of, base_of};
 ghost use Rattle.mv_rewrite.specs.Sites.{sites as sites_of};
 
 use crate::entries::address_count;
-use crate::plan::Plan;
 use crate::room::first_fit;
 use crate::site::Site;
 use crate::slots::{SLOT_LEN, places, slots};
 use crate::table::AddressTable;
 use elf32_read::{Image, Run};
+use elf32_write::Plan;
 use mv_base::{Addrs, Bytes, NoMemory};
 use std::alloc::Global;
 use thiserror::Error;

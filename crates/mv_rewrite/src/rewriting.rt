@@ -8,11 +8,10 @@ ghost use Rattle.mv_rewrite.specs.Layout.{size};
 ghost use Rattle.mv_rewrite.specs.Rewriting.{IsRewritten};
 ghost use Rattle.mv_rewrite.specs.Stopping.{Simulates};
 
-use crate::file::{added_len, write_image};
 use crate::layout::{LayFault, lay};
-use crate::plan::Plan;
 use crate::sites::sites;
 use elf32_read::{Image, ImageFault, ReadImage, admit, read_image, runs};
+use elf32_write::{Plan, added_len, write_image};
 use mv_base::{NoMemory, Range};
 use std::alloc::Global;
 

@@ -7,8 +7,8 @@ ghost use Rattle.elf32_read.specs.Runs.{AreApart};
 ghost use Rattle.mv_rewrite.specs.Sites.{addresses};
 
 use crate::entries::{place_runs, table_bytes};
-use crate::plan::RunPlaces;
 use elf32_read::Run;
+use elf32_write::RunPlaces;
 use mv_base::{Bytes, NoMemory, RunPlace, u32_at};
 use std::alloc::Global;
 

@@ -2,8 +2,8 @@
 
 ghost use Rattle.std.specs.Prelude.{◌≤◌, length};
 
-use crate::frame::read_frame;
 use crate::rewriting::{FILE_LIMIT, RewriteFault, Rewritten, rewrite};
+use elf32_write::read_frame;
 use std::alloc::Global;
 
 /// A file with two headers: its code at 0x08048074, `mov eax, 1`, `mov ebx, 7`, `int 0x80`, and a page of zeros at

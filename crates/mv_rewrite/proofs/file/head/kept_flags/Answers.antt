@@ -1,5 +1,0 @@
-use Rattle.mv_rewrite.proofs.HeadBytes.{kept_flags}
-use Rattle.mv_rewrite.proofs.file.head.kept_flags.Goals as goal
-
-pub returns : goal.returns
-returns c = kept_flags c.args.flags c.ranges.flags.fits

@@ -1,7 +1,0 @@
-use Rattle.std.proofs.Common.{◌≡◌, ◌++◌, take}
-use Rattle.mv_rewrite.specs.File.{header_words, kept_header}
-use Rattle.mv_rewrite.proofs.HeadBytes.{spelled}
-use Rattle.mv_rewrite.proofs.file.head.put_kept_headers.Given as goal
-
-abbrev pub invariant-loop-header : goal.invariant-loop-header
-invariant-loop-header l = l.to.items ≡ l.fn.to.items ++ spelled (λ h. header_words (kept_header h)) (take l.header-index l.headers)
