@@ -15,4 +15,5 @@ pub mod Framing
 pub mod Relocated
 pub mod Simulation
 pub mod Stopping
+pub mod OutputFile
 pub mod Rewriting
