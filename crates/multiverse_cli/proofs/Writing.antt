@@ -5,7 +5,9 @@ use Rattle.mv_base.specs.Holding.{KeepsOrBegins}
 use Rattle.mv_base.specs.Faults.{Rose}
 use Rattle.mv_rewrite.specs.Layout.{base_of}
 use Rattle.mv_rewrite.specs.Rewriting.{IsOutput}
+use Rattle.elf32_write.specs.Frame.{Frame}
 use Rattle.mv_rewrite.specs.Stopping.{Simulates}
+use Rattle.mv_rewrite.specs.OutputFile.{IsWrittenFor}
 use Rattle.mv_rewrite.specs.declared.rewriting.Rewritten.{Rewritten}
 use Rattle.multiverse_cli.specs.declared.failure.Failure.{Failure}
 use Rattle.multiverse_cli.specs.declared.failure.Failure.TheVariants as failure
@@ -101,16 +103,23 @@ output-over b b' r e is = let P : List ℕ → Type 0 = λ l. IsOutput l r in su
 pub simulates-over : (b b' x : List ℕ) → b' ≡ b → Simulates b' x → Simulates b x
 simulates-over b b' x e follows = let P : List ℕ → Type 0 = λ l. Simulates l x in subst P e follows
 
+-- and so is that the output is what is written for it
+pub written-over :
+    (b b' x : List ℕ) → b' ≡ b → (f : Frame) × IsWrittenFor b' x f → (f : Frame) × IsWrittenFor b x f
+written-over b b' x e file = let P : List ℕ → Type 0 = λ l. (f : Frame) × IsWrittenFor l x f in subst P e file
+
 -- a file that is rewritten to equal bytes
 pub rewrites-to :
     (b x : List ℕ) (r : Rewritten) → length b ≤ size_limit → x ≡ r.bytes.items → IsOutput b r
-    → Simulates b r.bytes.items → Rewrites b x
-rewrites-to b x r fits e is simulates =
+    → Simulates b r.bytes.items → (f : Frame) × IsWrittenFor b r.bytes.items f → Rewrites b x
+rewrites-to b x r fits e is simulates file =
     let P : List ℕ → Type 0 = λ l. Simulates b l in
+    let Q : List ℕ → Type 0 = λ l. (f : Frame) × IsWrittenFor b l f in
     record {
       rewritable = record { fits = fits; sound = is.whole; room = ap is_some is.added_lo };
       output_is = is.bytes ∙ ap Some (sym e);
       simulates = subst P (sym e) simulates;
+      written = subst Q (sym e) file;
     }
 
 -- what the last step made a name hold, the whole call made it hold

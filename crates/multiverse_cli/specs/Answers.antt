@@ -8,7 +8,9 @@ use Rattle.elf32_read.specs.Faults.{refusal}
 use Rattle.mv_rewrite.specs.Sites.{sites}
 use Rattle.mv_rewrite.specs.Layout.{base_of, size}
 use Rattle.mv_rewrite.specs.Output.{output}
+use Rattle.elf32_write.specs.Frame.{Frame}
 use Rattle.mv_rewrite.specs.Stopping.{Simulates}
+use Rattle.mv_rewrite.specs.OutputFile.{IsWrittenFor}
 use Rattle.multiverse_cli.specs.Outside.{Stored, Printed, IsReadFault, IsWriteFault, IsSinkFault, KeepsAll, KeepsOthers, Held, Holds, SaysAll, SaysPart, Says}
 use Rattle.multiverse_cli.specs.Texts.{rewritten_text, usage_message, read_message, size_message, image_message, room_message, write_message, memory_message}
 use Rattle.multiverse_cli.specs.Words.{Asked, ToRewrite}
@@ -43,11 +45,13 @@ pub record IsRewritable (b : List ℕ) : Type 0 where
 
 -- a file that is rewritten, and its one output, which simulates it: while the file completes steps that are clear of
 -- the added addresses and of changes to its code, the output passes in order through a state that agrees after each
--- one, shows nothing in between, and stops where the file stops, for the same cause
+-- one, shows nothing in between, and stops where the file stops, for the same cause; and it is what is written for the
+-- file: an image with a frame, in which the file, its sites' slots, the table and the private area stand and load so
 pub record Rewrites (b x : List ℕ) : Type 0 where
   pub rewritable : IsRewritable b
   pub output_is : output b ≡ Some x
   pub simulates : Simulates b x
+  pub written : (f : Frame) × IsWrittenFor b x f
 
 -- what is printed of a file that is rewritten: the number of its sites, the added addresses, and no counter
 abbrev pub text_of : List ℕ → List ℕ

@@ -21,6 +21,7 @@ use Rattle.elf32_read.specs.Whole.{or_else-none, length-headers}
 use Rattle.elf32_write.specs.declared.plan.Plan.{Plan}
 use Rattle.elf32_write.specs.Format.{up}
 use Rattle.elf32_write.specs.File.{added_len, file_of}
+use Rattle.elf32_write.specs.Frame.{Frame}
 use Rattle.elf32_write.specs.Writing.{EndsLow}
 use Rattle.mv_rewrite.specs.declared.layout.LayFault.{LayFault}
 use Rattle.mv_rewrite.specs.declared.layout.LayFault.TheVariants as lay_fault
@@ -33,9 +34,12 @@ use Rattle.mv_rewrite.specs.Laying.{IsLaid, LaysOut}
 use Rattle.mv_rewrite.specs.Rewriting.{laid_fault, IsRewritten}
 use Rattle.mv_rewrite.specs.Output.{output, output_at}
 use Rattle.mv_rewrite.specs.Stopping.{Simulates}
-use Rattle.mv_rewrite.proofs.Planned.{length-code, length-table_of, length-counted, plan_runs, length-run_places, size_is, has_room_at}
+use Rattle.mv_rewrite.specs.OutputFile.{IsWrittenFor}
+use Rattle.mv_rewrite.proofs.Planned.{IsInput, length-code, length-table_of, length-counted, plan_runs, length-run_places, size_is, has_room_at}
 use Rattle.mv_rewrite.proofs.LayoutFacts.{sites_of_runs}
+use Rattle.mv_rewrite.proofs.Recorded.{frame_is}
 use Rattle.mv_rewrite.proofs.Outputs.{simulated, image_input}
+use Rattle.mv_rewrite.proofs.OutputFacts.{written_for}
 
 added_by : (b : List ℕ) (base : ℕ) → added_len (plan_at b base) ≡ size b
 added_by b base =
@@ -81,22 +85,36 @@ pub output_is : (b : List ℕ) (p : Plan) → IsLaid b p → output b ≡ Some (
 unfolding output
 output_is b p laid = ap (option_map (output_at b)) laid.base_is ∙ ap (λ (q : Plan). Some (file_of b q)) (sym laid.plan_is)
 
-simulates_by : (b x : List ℕ) (o : Option ℕ) → refusal b ≡ None → AreBytes b → length b ≤ 67108864 → base_of b ≡ o → option_map (output_at b) o ≡ Some x → Simulates b x
+-- the output of a file with no fault is that of an input
+pub record IsOutputOf (b x : List ℕ) : Type 0 where
+  pub base : ℕ
+  pub input : IsInput b base
+  pub same : output_at b base ≡ x
+
+output_by : (b x : List ℕ) (o : Option ℕ) → refusal b ≡ None → AreBytes b → length b ≤ 67108864 → base_of b ≡ o → option_map (output_at b) o ≡ Some x → IsOutputOf b x
 unfolding refusal
-simulates_by b x None whole bytes small at e = absurd (none-some x e)
-simulates_by b x (Some base) whole bytes small at e =
+output_by b x None whole bytes small at e = absurd (none-some x e)
+output_by b x (Some base) whole bytes small at e =
     let both = or_else-none (load_refusal b) (limit_fault b) whole in
-    subst (Simulates b) (same_Some (output_at b base) x e) (simulated b base (image_input b base both.0 both.1 bytes small at))
+    record { base = base; input = image_input b base both.0 both.1 bytes small at; same = same_Some (output_at b base) x e }
 
--- the output of a file with no fault simulates it
-pub output_simulates : (b x : List ℕ) → refusal b ≡ None → AreBytes b → length b ≤ 67108864 → output b ≡ Some x → Simulates b x
+output_of : (b x : List ℕ) → refusal b ≡ None → AreBytes b → length b ≤ 67108864 → output b ≡ Some x → IsOutputOf b x
 unfolding output
-output_simulates b x whole bytes small e = simulates_by b x (base_of b) whole bytes small refl e
+output_of b x whole bytes small e = output_by b x (base_of b) whole bytes small refl e
 
--- so does each output that a file is rewritten to
+-- each output that a file is rewritten to simulates it
 pub all_simulate : (b : List ℕ) (r : Result Rewritten RewriteFault) → AreBytes b → length b ≤ 67108864 → IsRewritten b r → IfOk r (λ x. Simulates b x.bytes.items)
-all_simulate b (Ok x) bytes small is = output_simulates b x.bytes.items is.whole bytes small is.bytes
+all_simulate b (Ok r) bytes small is =
+    let o = output_of b r.bytes.items is.whole bytes small is.bytes in
+    subst (Simulates b) o.same (simulated b o.base o.input)
 all_simulate b (Err e) bytes small is = tt
+
+-- and is what is written for it
+pub all_written : (b : List ℕ) (r : Result Rewritten RewriteFault) → AreBytes b → length b ≤ 67108864 → IsRewritten b r → IfOk r (λ x. (f : Frame) × IsWrittenFor b x.bytes.items f)
+all_written b (Ok r) bytes small is =
+    let o = output_of b r.bytes.items is.whole bytes small is.bytes in
+    (frame_is b o.base, subst (λ (x : List ℕ). IsWrittenFor b x (frame_is b o.base)) o.same (written_for b o.base o.input))
+all_written b (Err e) bytes small is = tt
 
 -- the answer where a file with no fault wasn't laid out
 no_plan : (b : List ℕ) (fault : LayFault) → refusal b ≡ None → LaysOut b (Err fault) → IsRewritten b (Err (laid_fault fault))

@@ -39,4 +39,5 @@ pub mod Stops
 pub mod Paces
 pub mod Simulating
 pub mod Outputs
+pub mod OutputFacts
 pub mod Assembled

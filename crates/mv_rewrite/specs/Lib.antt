@@ -11,4 +11,5 @@ pub mod Output
 pub mod Relocated
 pub mod Simulation
 pub mod Stopping
+pub mod OutputFile
 pub mod Rewriting

@@ -3,8 +3,10 @@
 ghost use Rattle.std.specs.Prelude.{◌≡◌, ◌≤◌, length, None, IfOk};
 ghost use Rattle.elf32_read.specs.Faults.{limit_fault};
 ghost use Rattle.elf32_read.specs.Reading.{IsImage};
+ghost use Rattle.elf32_write.specs.Frame.{Frame};
 ghost use Rattle.mv_rewrite.specs.Laying.{IsLaid};
 ghost use Rattle.mv_rewrite.specs.Layout.{size};
+ghost use Rattle.mv_rewrite.specs.OutputFile.{IsWrittenFor};
 ghost use Rattle.mv_rewrite.specs.Rewriting.{IsRewritten};
 ghost use Rattle.mv_rewrite.specs.Stopping.{Simulates};
 
@@ -72,6 +74,7 @@ pub fn rewrite(alloc: Global, bytes: &[u8]) -> Result<Rewritten, RewriteFault>
     requires { length bytes.now ≤ FILE_LIMIT }
     ensures rewritten { IsRewritten bytes.now result }
     ensures simulates { IfOk result (λ r. Simulates bytes.now r.bytes.items) }
+    ensures written { IfOk result (λ r. (f : Frame) × IsWrittenFor bytes.now r.bytes.items f) }
 {
     match read_image(alloc, bytes) {
         Ok(image) => rewrite_image(alloc, &image, bytes),

@@ -1,12 +1,16 @@
--- The output simulates, and the reader's fault is the file's first.
+-- The output simulates and is what is written, and the reader's fault is the file's first.
 use Rattle.std.proofs.Common.{Some, arith, ap, sym, ◌∙◌}
 use Rattle.elf32_read.specs.declared.fault.ImageFault.{ImageFault}
-use Rattle.mv_rewrite.proofs.Assembled.{all_simulate, read_fault}
+use Rattle.mv_rewrite.proofs.Assembled.{all_simulate, all_written, read_fault}
 use Rattle.mv_rewrite.proofs.rewriting.rewrite.Goals as goal
 
 pub returns-in-Ok-clause-simulates : goal.returns-in-Ok-clause-simulates
 returns-in-Ok-clause-simulates c =
     all_simulate c.args.bytes.now c.rewrite_image.result (λ i. omega (arith, c.type_inv.bytes i)) c.requires c.rewrite_image.ensures
+
+pub returns-in-Ok-clause-written : goal.returns-in-Ok-clause-written
+returns-in-Ok-clause-written c =
+    all_written c.args.bytes.now c.rewrite_image.result (λ i. omega (arith, c.type_inv.bytes i)) c.requires c.rewrite_image.ensures
 
 pub returns-in-Err-Bad-clause-rewritten : goal.returns-in-Err-Bad-clause-rewritten
 returns-in-Err-Bad-clause-rewritten c =
