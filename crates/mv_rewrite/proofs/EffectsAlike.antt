@@ -1,12 +1,13 @@
 -- The effects of an answer do the same to both memories.
-use Rattle.std.proofs.Common.{◌≡◌, ℕ, ◌+◌, ◌-◌, ◌<◌, ◌≤◌, Bool, true, false, not, ◌||◌, List, [], ◌∷◌, length, Option, Some, None, is_some, slice_index, if◌then◌else◌, nat_lt, nat_le, refl, sym, ap, ap₂, ◌∙◌, subst₂, ⊎_elim, arith}
+use Rattle.std.proofs.Common.{◌≡◌, ℕ, ◌+◌, ◌-◌, ◌<◌, ◌≤◌, Bool, true, false, not, ◌||◌, List, [], ◌∷◌, length, Option, Some, None, is_some, slice_index, if◌then◌else◌, refl, sym, ap, ap₂, ◌∙◌, subst₂, ⊎_elim, arith}
 use Rattle.std.specs.List.{AllByRecursion}
-use Rattle.std.proofs.lemmas.Bool.{both_ways, and_parts, and_from, ltb-true, leb-true, lt-ltb, le-leb, cond-false, cases_Bool}
+use Rattle.std.proofs.lemmas.Bool.{both_ways, and_from, lt-ltb, le-leb, cond-false, cases_Bool}
 use Rattle.std.proofs.lemmas.Option.{none-some, same_Some}
 use Rattle.mv_base.specs.Memory.{Cell, Memory, is_mapped, is_writable, is_executable, within, distance, put}
 use Rattle.mv_base.specs.Effects.{Mode, Read, Write, Exec, Effect, WriteAt, MapAt, UnmapAt, effect_lo, effect_len, IsEffect, is_write_mode, is_exec_mode, makes_code, applied, Refusal, Executable, first_touched, unmapped, unwritable, refused_access, refusal_of, Applied, AllApplied, RefusedAt, apply_next, apply_all}
 use Rattle.elf32_read.specs.Load.{load}
 use Rattle.elf32_write.specs.Frame.{Frame, is_added}
+use Rattle.elf32_write.specs.Within.{within_parts}
 use Rattle.mv_rewrite.specs.Relocated.{IsRelocated}
 use Rattle.mv_rewrite.specs.Simulation.{IsClearEffect, shown}
 use Rattle.mv_rewrite.proofs.Cells.{may_execute, shown_mapped, shown_writable, exec_alike, first_same}
@@ -48,9 +49,6 @@ renewed_apart w new c e = cond-false w new c e
 renewed_new : (w : Bool) (new c : Option Cell) → is_some (renewed w new c) ≡ true → is_some c ≡ false → w ≡ true
 renewed_new true new c m n = refl
 renewed_new false new c m n = absurd (both_ways (is_some c) n m)
-
-within_parts : (lo len a : ℕ) → within lo len a ≡ true → (lo ≤ a) × (a < lo + len)
-within_parts lo len a h = let p = and_parts (nat_le lo a) (nat_lt a (lo + len)) h in (leb-true lo a p.0, ltb-true a (lo + len) p.1)
 
 within_from : (lo len a : ℕ) → lo ≤ a → a < lo + len → within lo len a ≡ true
 within_from lo len a l h = and_from _ _ (le-leb lo a l) (lt-ltb a (lo + len) h)

@@ -224,7 +224,7 @@ output_in x len k (h ∷ hs) a is at apart =
 
 -- ---- regions of the block
 
-abbrev three : Option Cell → Option Cell → Option Cell → Option Cell
+abbrev pub three : Option Cell → Option Cell → Option Cell → Option Cell
 three c t p = first_of c (first_of t (first_of p None))
 
 -- the code: the bytes that stand at its place

@@ -1,9 +1,9 @@
 -- The file of an input is what is written for it.
-use Rattle.std.proofs.Common.{◌≡◌, ℕ, ◌+◌, ◌-◌, ◌<◌, true, false, cond, ltb, List, length, Option, Some, None, refl, sym, ap, ◌∙◌, subst, inr, arith}
+use Rattle.std.proofs.Common.{◌≡◌, ℕ, ◌+◌, ◌-◌, ◌<◌, true, false, cond, ltb, List, length, Some, None, refl, sym, ap, ◌∙◌, subst, inr, arith}
 use mathlib.Core.Path.{fun_ext}
 use Rattle.std.specs.Prelude.{slice_index}
 use Rattle.std.proofs.lemmas.Bool.{lt-ltb}
-use Rattle.mv_base.specs.Memory.{Cell, within, first_of}
+use Rattle.mv_base.specs.Memory.{Cell, within}
 use Rattle.elf32_read.specs.Fields.{headers}
 use Rattle.elf32_read.specs.Load.{load}
 use Rattle.elf32_write.specs.Format.{up}
@@ -18,15 +18,12 @@ use Rattle.mv_rewrite.specs.OutputFile.{IsWrittenFor}
 use Rattle.mv_rewrite.proofs.Parts.{Stands}
 use Rattle.mv_rewrite.proofs.Placed.{map_is}
 use Rattle.mv_rewrite.proofs.NewHeaders.{Block, code_of_block, table_of_block, private_of_block, block_headers}
-use Rattle.mv_rewrite.proofs.NewCells.{within_not, within_is, inner_cell, header_cell, cells_of, loads, cell_inside, cell_outside, InBlock, output_in, private_cell}
+use Rattle.mv_rewrite.proofs.NewCells.{within_not, within_is, inner_cell, header_cell, cells_of, loads, cell_inside, cell_outside, three, InBlock, output_in, private_cell}
 use Rattle.mv_rewrite.proofs.Planned.{length-code, length-table_of, IsInput, block, wrote, is_block, headers_apart, output_headers}
 use Rattle.mv_rewrite.proofs.Recorded.{taken, frame_is}
 use Rattle.mv_rewrite.proofs.Relocating.{is_placed, relocated}
 
 -- ---- the block's cells
-
-abbrev three : Option Cell → Option Cell → Option Cell → Option Cell
-three c t p = first_of c (first_of t (first_of p None))
 
 -- the table: the bytes that stand at its place
 table_cell : (x table : List ℕ) (k : Block) (n : ℕ) → length table ≡ k.table → Stands x (k.place + up k.code) table → n < length table

@@ -7,7 +7,8 @@ use Rattle.mv_base.specs.Bytes.{words, word}
 use Rattle.mv_rewrite.specs.Layout.{entry_in}
 use Rattle.mv_rewrite.specs.Lookup.{Ascend}
 use Rattle.mv_rewrite.proofs.RunSites.{range_more}
-use Rattle.mv_rewrite.proofs.RunOrder.{words-append, words_one}
+use Rattle.elf32_write.specs.Words.{words-append}
+use Rattle.mv_rewrite.proofs.RunOrder.{words_one}
 
 pub ascend_weaker : (low from : ℕ) (ps : List (ℕ × ℕ)) → low ≤ from → Ascend from ps → Ascend low ps
 ascend_weaker low from [] l h = tt

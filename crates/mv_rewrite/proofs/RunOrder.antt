@@ -9,6 +9,7 @@ use Rattle.byteorder.specs.Endian.{little_bytes}
 use Rattle.mv_base.specs.declared.range.RunPlace.{RunPlace}
 use Rattle.elf32_read.specs.declared.run.Run.{Run}
 use Rattle.elf32_read.specs.Runs.{AreApart}
+use Rattle.elf32_write.specs.Words.{words-append}
 use Rattle.mv_rewrite.specs.Sites.{run_addresses, addresses}
 use Rattle.mv_rewrite.specs.Layout.{entry_in, table, run_places}
 
@@ -83,10 +84,6 @@ places_more (q ∷ rs) dir (suc k) r l e =
     rw s (ap (λ (t : List RunPlace). (record { lo = q.lo; len = length q.bytes; dir = dir }) ∷ t)
     (places_more rs (dir + 4 * length q.bytes) k r (omega arith) e
     ∙ ap (λ (n : ℕ). run_places (dir + 4 * length q.bytes) (take k rs) ++ (record { lo = r.lo; len = length r.bytes; dir = n }) ∷ []) d))
-
-pub words-append : (xs ys : List ℕ) → words (xs ++ ys) ≡ words xs ++ words ys
-unfolding words
-words-append xs ys = flat_map-append (little_bytes 4) xs ys
 
 pub words_one : (x : ℕ) → words (x ∷ []) ≡ word x
 unfolding words word

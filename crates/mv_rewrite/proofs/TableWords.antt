@@ -14,7 +14,8 @@ use Rattle.elf32_read.specs.Runs.{code_of}
 use Rattle.mv_rewrite.specs.Sites.{run_addresses, addresses}
 use Rattle.mv_rewrite.specs.Layout.{entry_in, table, run_places}
 use Rattle.mv_rewrite.specs.Lookup.{HasWords}
-use Rattle.mv_rewrite.proofs.RunOrder.{words-append, length-cons, addresses-cons}
+use Rattle.elf32_write.specs.Words.{words-append}
+use Rattle.mv_rewrite.proofs.RunOrder.{length-cons, addresses-cons}
 
 pub some_when : (o : Option ℕ) (n m : ℕ) → IfNone o (n < m) → m ≤ n → IsSome o
 some_when None n m h l = absurd (omega (arith, h))
