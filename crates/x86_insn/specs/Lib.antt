@@ -2,6 +2,17 @@ pub mod Flow
 pub mod Flags
 pub mod Spelling
 pub mod State
+pub mod Values
+pub mod Shifts
+pub mod Products
+pub mod Bits
+pub mod Conditions
+pub mod Operands
+pub mod Ask
+pub mod Moves
+pub mod Arithmetic
+pub mod Strings
+pub mod Transfers
 pub mod Round
 pub mod Step
 pub mod Run
