@@ -1,7 +1,9 @@
 -- Rounds of moves: data, the stack, and flags. Intel SDM, volume 2. Each line says what one kind of instruction asks and
 -- how it ends; `got` has the byte lists that the round has read so far.
 use Rattle.std.specs.Prelude.{ℕ, ◌-◌, ◌%◌, ◌^◌, ◌/◌, ◌==◌, nat_lt, ◌||◌, Bool, true, false, not, List, [], ◌∷◌, reverse, Some, if◌then◌else◌}
-use Rattle.mv_base.specs.Bytes.{number, word, words, word_at}
+use Rattle.std.specs.Int.{w32, swap_bytes}
+use Rattle.byteorder.specs.Endian.{little_from}
+use Rattle.mv_base.specs.Bytes.{word, words}
 use Rattle.mv_base.specs.Memory.{address_after}
 use Rattle.x86_insn.specs.declared.flags.Flags.{Flags}
 use Rattle.x86_insn.specs.declared.insn.Cond.{Cond}
@@ -9,7 +11,7 @@ use Rattle.x86_insn.specs.declared.insn.FlagOp.{FlagOp}
 use Rattle.x86_insn.specs.declared.insn.FlagOp.TheVariants.{Cmc, Clc, Stc, Cld, Std}
 use Rattle.x86_insn.specs.declared.insn.Mem.{Mem}
 use Rattle.x86_insn.specs.declared.insn.Reg.{Reg}
-use Rattle.x86_insn.specs.declared.insn.Reg.TheVariants.{Eax, Edx, Ebx, Esp, Ebp}
+use Rattle.x86_insn.specs.declared.insn.Reg.TheVariants.{Eax, Ecx, Edx, Ebx, Esp, Ebp, Esi, Edi}
 use Rattle.x86_insn.specs.declared.insn.Rm.{Rm}
 use Rattle.x86_insn.specs.declared.insn.Src.{Src}
 use Rattle.x86_insn.specs.declared.insn.Width.{Width}
@@ -18,7 +20,7 @@ use Rattle.x86_insn.specs.State.{Core, Outside}
 use Rattle.x86_insn.specs.Flags.{flag_image}
 use Rattle.x86_insn.specs.Values.{modulus, half}
 use Rattle.x86_insn.specs.Conditions.{holds}
-use Rattle.x86_insn.specs.Operands.{reg, reg_value, set_reg, set_flags, accumulator, ah, address_before, effective_address, sign_extended}
+use Rattle.x86_insn.specs.Operands.{reg, reg_value, set_reg, set_flags, accumulator, ah, bytes_of, address_before, effective_address, sign_extended}
 use Rattle.x86_insn.specs.Ask.{Ask, Reads, Halts, Ends, with_read, with_rm, with_src, ends, ends_in}
 
 -- ---- data
@@ -36,14 +38,14 @@ lea_round w dst m c = ends false (set_reg w dst (effective_address c m % modulus
 
 abbrev pub movx_value : Bool → Width → Width → ℕ → ℕ
 movx_value true from to n = sign_extended from to n
-movx_value false from to n = n
+movx_value false from to n = n % modulus to
 
 abbrev pub movx_round : Bool → Width → Width → Reg → Rm → Core → List (List ℕ) → Ask Bool
 movx_round signed from to dst src c got = with_rm from c src got (λ n rest. ends false (set_reg to dst (movx_value signed from to n) c))
 
 -- the four bytes of a register in reverse order
 abbrev pub bswap_round : Reg → Core → Ask Bool
-bswap_round r c = ends false (set_reg D r (number (reverse (word (reg c r)))) c)
+bswap_round r c = ends false (set_reg D r (swap_bytes w32 (reg c r)) c)
 
 -- the source is read whether or not the condition holds
 abbrev pub cmov_round : Cond → Width → Reg → Rm → Core → List (List ℕ) → Ask Bool
@@ -70,7 +72,7 @@ cwd_round w c = ends false (set_reg w Edx (sign_filled w (accumulator w c)) c)
 
 -- the byte at EBX and AL together
 abbrev pub xlat_round : Core → List (List ℕ) → Ask Bool
-xlat_round c got = with_read (address_after (reg c Ebx) (accumulator B c)) 1 got (λ n rest. ends false (set_reg B Eax n c))
+xlat_round c got = with_read (address_after (reg c Ebx) (accumulator B c)) B got (λ n rest. ends false (set_reg B Eax n c))
 
 -- ---- the stack
 
@@ -83,7 +85,7 @@ lowered n c = set_reg D Esp (address_before (reg c Esp) n) c
 
 -- a word goes below ESP, and ESP to it
 abbrev pub pushes : {E : Type 0} → E → ℕ → Core → Ask E
-pushes e n c = Ends (lowered 4 c) (Some (address_before (reg c Esp) 4, word n)) e
+pushes e n c = Ends (lowered 4 c) (Some (address_before (reg c Esp) 4, bytes_of D n)) e
 
 -- the address and the value are those of ESP before it falls
 abbrev pub push_round : Src → Core → List (List ℕ) → Ask Bool
@@ -91,16 +93,25 @@ push_round src c got = with_src D c src got (λ n rest. pushes false n c)
 
 -- the stack is read, then ESP rises, and with it the destination's address is computed
 abbrev pub pop_round : Rm → Core → List (List ℕ) → Ask Bool
-pop_round dst c got = with_read (reg c Esp) 4 got (λ n rest. ends_in false D dst n (risen 4 c) (risen 4 c))
+pop_round dst c got = with_read (reg c Esp) D got (λ n rest. ends_in false D dst n (risen 4 c) (risen 4 c))
 
--- from the lowest address on: EDI, ESI, EBP, the old ESP, EBX, EDX, ECX, EAX
+-- from the lowest address on
+abbrev pub pushed_bytes : Core → List ℕ
+pushed_bytes c =
+    words (reg c Edi ∷ reg c Esi ∷ reg c Ebp ∷ reg c Esp ∷ reg c Ebx ∷ reg c Edx ∷ reg c Ecx ∷ reg c Eax ∷ [])
+
+-- the word of ESP is that of ESP before it falls
 abbrev pub pushad_round : Core → Ask Bool
-pushad_round c = Ends (lowered 32 c) (Some (address_before (reg c Esp) 32, words (reverse c.regs))) false
+pushad_round c = Ends (lowered 32 c) (Some (address_before (reg c Esp) 32, pushed_bytes c)) false
+
+-- the number in the four bytes from a place on
+abbrev pub word_from : ℕ → List ℕ → ℕ
+word_from place bytes = little_from place 4 bytes
 
 -- the same eight words; that of ESP is skipped
 abbrev pub popped_regs : ℕ → List ℕ → List ℕ
 popped_regs esp bytes =
-    word_at bytes 28 ∷ word_at bytes 24 ∷ word_at bytes 20 ∷ word_at bytes 16 ∷ address_after esp 32 ∷ word_at bytes 8 ∷ word_at bytes 4 ∷ word_at bytes 0 ∷ []
+    word_from 28 bytes ∷ word_from 24 bytes ∷ word_from 20 bytes ∷ word_from 16 bytes ∷ address_after esp 32 ∷ word_from 8 bytes ∷ word_from 4 bytes ∷ word_from 0 bytes ∷ []
 
 abbrev pub popad_round : Core → List (List ℕ) → Ask Bool
 popad_round c [] = Reads (reg c Esp) 32
@@ -108,7 +119,7 @@ popad_round c (bytes ∷ rest) = ends false (record c { regs = popped_regs (reg 
 
 -- EBP's word is read, then ESP stands above it
 abbrev pub leave_round : Core → List (List ℕ) → Ask Bool
-leave_round c got = with_read (reg c Ebp) 4 got (λ n rest. ends false (set_reg D Ebp n (set_reg D Esp (address_after (reg c Ebp) 4) c)))
+leave_round c got = with_read (reg c Ebp) D got (λ n rest. ends false (set_reg D Ebp n (set_reg D Esp (address_after (reg c Ebp) 4) c)))
 
 -- ---- flags
 
@@ -140,7 +151,7 @@ abbrev pub popfd_end : ℕ → Core → Ask Bool
 popfd_end n c = if sets_other_flags n then Halts Outside else ends false (set_flags (flags_of_image n) (risen 4 c))
 
 abbrev pub popfd_round : Core → List (List ℕ) → Ask Bool
-popfd_round c got = with_read (reg c Esp) 4 got (λ n rest. popfd_end n c)
+popfd_round c got = with_read (reg c Esp) D got (λ n rest. popfd_end n c)
 
 -- AH gets the image's low byte
 abbrev pub lahf_round : Core → Ask Bool

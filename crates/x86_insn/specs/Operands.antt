@@ -8,7 +8,7 @@ use Rattle.x86_insn.specs.declared.insn.Reg.TheVariants.{Eax, Esp}
 use Rattle.x86_insn.specs.declared.insn.Width.{Width}
 use Rattle.x86_insn.specs.declared.insn.Width.TheVariants.{B, W, D}
 use Rattle.x86_insn.specs.State.{Core, reg_number}
-use Rattle.x86_insn.specs.Values.{width_bytes, modulus, half}
+use Rattle.x86_insn.specs.Values.{width_bytes, wrapped, signed_value}
 
 -- ---- registers
 
@@ -85,6 +85,7 @@ effective_address c m = (base_part c m.base + index_part c m.index + m.disp) % 2
 abbrev pub bytes_of : Width → ℕ → List ℕ
 bytes_of w n = little_bytes (width_bytes w) n
 
--- a value of one width extended by its sign to another that is no narrower
+-- a value of one width extended by its sign to another: what is left there of the number that it spells in two's
+-- complement
 abbrev pub sign_extended : Width → Width → ℕ → ℕ
-sign_extended from to n = if nat_lt n (half from) then n else n + modulus to - modulus from
+sign_extended from to n = wrapped to (signed_value from n)

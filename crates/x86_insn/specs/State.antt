@@ -5,12 +5,14 @@ use Rattle.mv_base.specs.Effects.{Answer}
 use Rattle.x86_insn.specs.declared.flags.Flags.{Flags}
 use Rattle.x86_insn.specs.declared.insn.Reg.{Reg}
 use Rattle.x86_insn.specs.declared.insn.Reg.TheVariants.{Eax, Ecx, Edx, Ebx, Esp, Ebp, Esi, Edi}
+pub use Rattle.x86_insn.specs.declared.registers.Core.{Core}
+pub use Rattle.x86_insn.specs.declared.stop.Kind.{Kind}
+pub use Rattle.x86_insn.specs.declared.stop.Kind.TheVariants.{ReadFault, WriteFault, FetchFault, Divide, Breakpoint, Invalid, Protection}
+pub use Rattle.x86_insn.specs.declared.stop.Stop.{Stop}
+pub use Rattle.x86_insn.specs.declared.stop.Stop.TheVariants.{Trap, Outside, NoAnswer, BadAnswer, Gone}
 
--- what an instruction may change without memory: the eight general registers by their number, and the flags
-pub record Core : Type 0 where
-  pub regs : List ℕ
-  pub flags : Flags
-
+-- a core (the type stands in src/) is what an instruction may change without memory: the eight general registers by
+-- their number, and the flags
 pub record IsCore (c : Core) : Type 0 where
   pub eight : length c.regs ≡ 8
   pub fits : (k : ℕ) → slice_index c.regs k < 2 ^ 32
@@ -33,25 +35,6 @@ reg_number Esp = 4
 reg_number Ebp = 5
 reg_number Esi = 6
 reg_number Edi = 7
-
--- why a trap comes
-pub data Kind : Type 0 where
-  ReadFault : Kind
-  WriteFault : Kind
-  FetchFault : Kind
-  Divide : Kind
-  Breakpoint : Kind
-  Invalid : Kind
-  Protection : Kind
-
--- why a machine stops: a trap with its address (0 where it has none), bytes that are no instruction, no answer left,
--- an answer that cannot be applied, or the end of the program
-pub data Stop : Type 0 where
-  Trap : (kind : Kind) (at : ℕ) → Stop
-  Outside : Stop
-  NoAnswer : Stop
-  BadAnswer : Stop
-  Gone : Stop
 
 -- what a step gives: the next state, or a stop and the state there
 pub data Outcome : Type 0 where

@@ -45,21 +45,21 @@ compared rep f c = Ends (counted rep (set_flags f c)) None (goes_on_with rep f.z
 
 abbrev pub movs_round : Width → Rep → Core → List (List ℕ) → Ask Bool
 movs_round w rep c got =
-    with_read (reg c Esi) (width_bytes w) got (λ n rest. Ends (counted rep (moved w Edi (moved w Esi c))) (Some (reg c Edi, bytes_of w n)) (goes_on rep))
+    with_read (reg c Esi) w got (λ n rest. Ends (counted rep (moved w Edi (moved w Esi c))) (Some (reg c Edi, bytes_of w n)) (goes_on rep))
 
 abbrev pub cmps_round : Width → Rep → Core → List (List ℕ) → Ask Bool
 cmps_round w rep c got =
-    with_read (reg c Esi) (width_bytes w) got (λ a rest. with_read (reg c Edi) (width_bytes w) rest (λ b more. compared rep (alu_flags Cmp w a b c.flags) (moved w Edi (moved w Esi c))))
+    with_read (reg c Esi) w got (λ a rest. with_read (reg c Edi) w rest (λ b more. compared rep (alu_flags Cmp w a b c.flags) (moved w Edi (moved w Esi c))))
 
 abbrev pub stos_round : Width → Rep → Core → Ask Bool
 stos_round w rep c = Ends (counted rep (moved w Edi c)) (Some (reg c Edi, bytes_of w (accumulator w c))) (goes_on rep)
 
 abbrev pub lods_round : Width → Rep → Core → List (List ℕ) → Ask Bool
-lods_round w rep c got = with_read (reg c Esi) (width_bytes w) got (λ n rest. Ends (counted rep (set_reg w Eax n (moved w Esi c))) None (goes_on rep))
+lods_round w rep c got = with_read (reg c Esi) w got (λ n rest. Ends (counted rep (set_reg w Eax n (moved w Esi c))) None (goes_on rep))
 
 abbrev pub scas_round : Width → Rep → Core → List (List ℕ) → Ask Bool
 scas_round w rep c got =
-    with_read (reg c Edi) (width_bytes w) got (λ b rest. compared rep (alu_flags Cmp w (accumulator w c) b c.flags) (moved w Edi c))
+    with_read (reg c Edi) w got (λ b rest. compared rep (alu_flags Cmp w (accumulator w c) b c.flags) (moved w Edi c))
 
 abbrev pub str_round : StrOp → Width → Rep → Core → List (List ℕ) → Ask Bool
 str_round Movs w rep c got = movs_round w rep c got

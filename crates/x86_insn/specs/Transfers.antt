@@ -53,4 +53,4 @@ jump_via_hop src c got = with_rm D c src got (λ to rest. ends to c)
 
 -- ESP rises past the return address and as many bytes more as are dropped
 abbrev pub return_hop : ℕ → Core → List (List ℕ) → Ask ℕ
-return_hop drop c got = with_read (reg c Esp) 4 got (λ to rest. ends to (risen (4 + drop) c))
+return_hop drop c got = with_read (reg c Esp) D got (λ to rest. ends to (risen (4 + drop) c))

@@ -11,6 +11,23 @@ pub enum Width {
     D,
 }
 
+impl Width {
+    ghost use Rattle.std.specs.Prelude.{◌≡◌, ◌≤◌};
+    ghost use Rattle.x86_insn.specs.Values.{width_bytes};
+
+    /// How many bytes a value has: 1, 2 or 4.
+    pub fn bytes(self) -> usize
+        ensures is { result ≡ width_bytes self }
+        ensures at_most { result ≤ 4 }
+    {
+        match self {
+            Width::B => 1,
+            Width::W => 2,
+            Width::D => 4,
+        }
+    }
+}
+
 /// A general register, in the order of its number.
 #[derive(Clone, Copy)]
 pub enum Reg {
@@ -22,6 +39,28 @@ pub enum Reg {
     Ebp,
     Esi,
     Edi,
+}
+
+impl Reg {
+    ghost use Rattle.std.specs.Prelude.{◌≡◌, ◌<◌};
+    ghost use Rattle.x86_insn.specs.State.{reg_number};
+
+    /// The register's number, from 0 to 7.
+    pub fn number(self) -> usize
+        ensures is { result ≡ reg_number self }
+        ensures low { result < 8 }
+    {
+        match self {
+            Reg::Eax => 0,
+            Reg::Ecx => 1,
+            Reg::Edx => 2,
+            Reg::Ebx => 3,
+            Reg::Esp => 4,
+            Reg::Ebp => 5,
+            Reg::Esi => 6,
+            Reg::Edi => 7,
+        }
+    }
 }
 
 /// A memory operand: base, index with its factor (1, 2, 4 or 8) and displacement.

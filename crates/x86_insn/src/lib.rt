@@ -4,11 +4,17 @@
 //! which instruction, what an instruction asks of registers and memory, and what a run is.
 #![tactic(auto)]
 
+pub mod ask;
+pub mod registers;
 pub mod flags;
 pub mod insn;
+pub mod stop;
 
+pub use ask::{ACCESS_LEN, AccessBytes, Ask};
+pub use registers::Core;
 pub use flags::Flags;
 pub use insn::{
     AluOp, BitOp, Cond, Count, FlagOp, Flow, Insn, LoopKind, Mem, Reg, Rep, Rm, ShiftOp, Src,
     StrOp, UnOp, Width,
 };
+pub use stop::{Kind, Stop};
