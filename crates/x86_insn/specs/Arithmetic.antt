@@ -18,7 +18,7 @@ use Rattle.x86_insn.specs.declared.insn.UnOp.TheVariants.{Not, Neg}
 use Rattle.x86_insn.specs.declared.insn.Width.{Width}
 use Rattle.x86_insn.specs.declared.insn.Width.TheVariants.{B, W, D}
 use Rattle.x86_insn.specs.State.{Core, Trap, Divide}
-use Rattle.x86_insn.specs.Values.{alu_value, alu_flags, test_flags, bump_value, bump_flags, negate_value, negate_flags, not_value}
+use Rattle.x86_insn.specs.Values.{modulus, alu_value, alu_flags, test_flags, bump_value, bump_flags, negate_value, negate_flags, not_value}
 use Rattle.x86_insn.specs.Shifts.{shift_value, shift_flags, double_value, double_flags}
 use Rattle.x86_insn.specs.Products.{mul_low, mul_high, mul_flags, div_of}
 use Rattle.x86_insn.specs.Bits.{bit_value, bit_flags, scan_value, scan_flags}
@@ -43,11 +43,18 @@ alu_end op w dst a b c =
     let after = set_flags (alu_flags op w a b c.flags) c in
     if is_compare op then ends false after else ends_in false w dst (alu_value op w a b c.flags) c after
 
+-- the destination's value is a; the source is next
+abbrev pub alu_with : AluOp → Width → Rm → Src → ℕ → Core → List (List ℕ) → Ask Bool
+alu_with op w dst src a c rest = with_src w c src rest (λ b more. alu_end op w dst a b c)
+
 abbrev pub alu_round : AluOp → Width → Rm → Src → Core → List (List ℕ) → Ask Bool
-alu_round op w dst src c got = with_rm w c dst got (λ a rest. with_src w c src rest (λ b more. alu_end op w dst a b c))
+alu_round op w dst src c got = with_rm w c dst got (λ a rest. alu_with op w dst src a c rest)
+
+abbrev pub test_with : Width → Src → ℕ → Core → List (List ℕ) → Ask Bool
+test_with w src a c rest = with_src w c src rest (λ b more. ends false (set_flags (test_flags w a b c.flags) c))
 
 abbrev pub test_round : Width → Rm → Src → Core → List (List ℕ) → Ask Bool
-test_round w dst src c got = with_rm w c dst got (λ a rest. with_src w c src rest (λ b more. ends false (set_flags (test_flags w a b c.flags) c)))
+test_round w dst src c got = with_rm w c dst got (λ a rest. test_with w src a c rest)
 
 abbrev pub bump_round : Bool → Width → Rm → Core → List (List ℕ) → Ask Bool
 bump_round up w dst c got = with_rm w c dst got (λ a rest. ends_in false w dst (bump_value up w a) c (set_flags (bump_flags up w a c.flags) c))
@@ -104,7 +111,7 @@ div_round signed w src c got = with_rm w c src got (λ by rest. div_end w (div_o
 -- the second factor of a signed product into a register
 abbrev pub second_factor : Width → Reg → Option ℕ → Core → ℕ
 second_factor w dst None c = reg_value w c dst
-second_factor w dst (Some n) c = n
+second_factor w dst (Some n) c = n % modulus w
 
 abbrev pub imul_end : Width → Reg → ℕ → ℕ → Core → Ask Bool
 imul_end w dst a b c = ends false (set_reg w dst (mul_low true w a b) (set_flags (mul_flags true w a b c.flags) c))
@@ -145,8 +152,12 @@ bit_end op w dst a index c =
     let after = set_flags (bit_flags w a index c.flags) c in
     if is_test op then ends false after else ends_in false w dst (bit_value op w a index) c after
 
+-- the destination's value is a; the index is next
+abbrev pub bit_with : BitOp → Width → Rm → Src → ℕ → Core → List (List ℕ) → Ask Bool
+bit_with op w dst index a c rest = with_src w c index rest (λ k more. bit_end op w dst a k c)
+
 abbrev pub bit_round : BitOp → Width → Rm → Src → Core → List (List ℕ) → Ask Bool
-bit_round op w dst index c got = with_rm w c dst got (λ a rest. with_src w c index rest (λ k more. bit_end op w dst a k c))
+bit_round op w dst index c got = with_rm w c dst got (λ a rest. bit_with op w dst index a c rest)
 
 -- the destination is kept where the source has no bit set
 abbrev pub scan_end : Width → Reg → Option ℕ → Core → Ask Bool

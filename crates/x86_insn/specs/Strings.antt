@@ -47,9 +47,12 @@ abbrev pub movs_round : Width → Rep → Core → List (List ℕ) → Ask Bool
 movs_round w rep c got =
     with_read (reg c Esi) w got (λ n rest. Ends (counted rep (moved w Edi (moved w Esi c))) (Some (reg c Edi, bytes_of w n)) (goes_on rep))
 
+-- the element a at ESI is read, and then the one at EDI
+abbrev pub cmps_with : Width → Rep → ℕ → Core → List (List ℕ) → Ask Bool
+cmps_with w rep a c rest = with_read (reg c Edi) w rest (λ b more. compared rep (alu_flags Cmp w a b c.flags) (moved w Edi (moved w Esi c)))
+
 abbrev pub cmps_round : Width → Rep → Core → List (List ℕ) → Ask Bool
-cmps_round w rep c got =
-    with_read (reg c Esi) w got (λ a rest. with_read (reg c Edi) w rest (λ b more. compared rep (alu_flags Cmp w a b c.flags) (moved w Edi (moved w Esi c))))
+cmps_round w rep c got = with_read (reg c Esi) w got (λ a rest. cmps_with w rep a c rest)
 
 abbrev pub stos_round : Width → Rep → Core → Ask Bool
 stos_round w rep c = Ends (counted rep (moved w Edi c)) (Some (reg c Edi, bytes_of w (accumulator w c))) (goes_on rep)

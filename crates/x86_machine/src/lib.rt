@@ -1,7 +1,11 @@
 //! The user machine: one whole instruction a step.
 #![tactic(auto)]
 
+mod arithmetic;
+mod bits;
 mod conditions;
 mod moves;
 mod operands;
 mod stack;
+mod strings;
+mod transfers;

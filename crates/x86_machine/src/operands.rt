@@ -9,6 +9,9 @@ ghost use Rattle.x86_insn.specs.Values.{modulus};
 
 use x86_insn::{AccessBytes, Ask, Core, Flags, Mem, Reg, Rm, Src, Width};
 
+/// AH is the byte register of number 4.
+pub const AH: Reg = Reg::Esp;
+
 /// A 32-bit register.
 pub fn reg(core: &Core, reg: Reg) -> u32
     ensures { result ≡ reg_of core.now reg }
