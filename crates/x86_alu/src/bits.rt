@@ -29,6 +29,7 @@ pub fn bit(op: BitOp, w: Width, a: u32, index: u32, f: Flags) -> (u32, Flags)
 }
 
 // Bit `place` of `a` as it is, set, reset or complemented.
+#[tactic(auto, using(crate::proofs::Masks::set_bit, crate::proofs::Masks::reset_bit, crate::proofs::Masks::complemented_bit, crate::proofs::Masks::set_bit_below, crate::proofs::Masks::complemented_bit_below))]
 fn at_bit(op: BitOp, w: Width, a: u32, place: u32) -> u32
     requires a_fits { a < modulus_of w }
     requires in_width { place < width_bits w }
@@ -54,6 +55,7 @@ pub(crate) fn is_set(a: u32, place: u32) -> bool
 
 /// The place of the lowest bit of `a` that is set, or of the highest where not `up`, and the flags of BSF and BSR.
 /// `None` exactly where `a` is 0.
+#[tactic(auto, using(crate::proofs::Places::lowest, crate::proofs::Places::highest))]
 pub fn scan(up: bool, w: Width, a: u32, f: Flags) -> (Option<u32>, Flags)
     requires { a < modulus_of w }
     ensures value { result.0 ≡ scan_value up a }

@@ -1,8 +1,8 @@
 //! Values and flags of the instructions that compute: each call is one line of the tables of the Intel SDM, volume 2.
 //!
-//! - `sum`: ADD, ADC, SUB, SBB, CMP, INC, DEC and NEG, AND, OR, XOR and TEST.
-//! - `shift`, `double`: shifts and rotates; `rotate` turns one word.
-//! - `product`, `quotient`: MUL, IMUL, DIV and IDIV.
+//! - `sums`: ADD, ADC, SUB, SBB, CMP, INC, DEC and NEG, AND, OR, XOR and TEST.
+//! - `shifts`, `doubles`: shifts and rotates; `rotates` turns a word.
+//! - `products`, `quotients`: MUL, IMUL, DIV and IDIV.
 //! - `bits`: the bit tests and the bit scans.
 //! - `width`: numbers at a width, unsigned and signed.
 //!
@@ -10,12 +10,20 @@
 #![tactic(auto)]
 
 mod bits;
-mod product;
-mod quotient;
-mod sum;
+mod doubles;
+mod products;
+mod quotients;
+mod rotates;
+mod shifts;
+mod sums;
 mod width;
 
 pub use bits::{bit, scan};
-pub use product::mul;
-pub use quotient::div;
-pub use sum::{alu, bump, logic_test, negate};
+pub use doubles::double;
+pub use products::mul;
+pub use quotients::div;
+pub use shifts::shift;
+pub use sums::{alu, bump, logic_test, negate};
+
+#[cfg(test)]
+mod tests;

@@ -1,6 +1,6 @@
 -- Values and flags of the bit tests and bit scans, over whole numbers. Intel SDM, volume 2. What the SDM leaves undefined
 -- is this project's own: OF, SF, AF and PF after them, and CF after a scan, are 0, and a test keeps ZF.
-use Rattle.std.specs.Prelude.{◌≡◌, ℕ, ◌+◌, ◌-◌, ◌<◌, ◌%◌, ◌^◌, Bool, true, false, if◌then◌else◌, ◌==◌, Option, Some, None, IsTrue, IsFalse}
+use Rattle.std.specs.Prelude.{ℕ, ◌+◌, ◌-◌, ◌<◌, ◌%◌, ◌^◌, Bool, true, false, if◌then◌else◌, ◌==◌, Option, Some, None, IsTrue, IsFalse}
 use Rattle.std.specs.Int.{w32, trailing_zeros, leading_zeros}
 use Rattle.x86_insn.specs.declared.flags.Flags.{Flags}
 use Rattle.x86_insn.specs.declared.insn.Width.{Width}

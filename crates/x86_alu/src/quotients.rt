@@ -9,7 +9,14 @@ use x86_insn::{Flags, Width};
 
 /// The quotient, the remainder and the flags of the dividend of halves `high` and `low` divided by `by`: of IDIV where
 /// `signed`, else of DIV. `None` exactly where it traps: for a divisor of 0 and a quotient that doesn't fit the width.
-pub fn div(signed: bool, w: Width, high: u32, low: u32, by: u32, f: Flags) -> Option<(u32, u32, Flags)>
+pub fn div(
+    signed: bool,
+    w: Width,
+    high: u32,
+    low: u32,
+    by: u32,
+    f: Flags,
+) -> Option<(u32, u32, Flags)>
     requires high_fits { high < modulus_of w }
     requires low_fits { low < modulus_of w }
     requires by_fits { by < modulus_of w }
