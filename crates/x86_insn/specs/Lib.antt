@@ -1,5 +1,9 @@
 pub mod Flow
 pub mod Flags
+pub mod Values
+pub mod Shifts
+pub mod Products
+pub mod Bits
 pub mod Spelling
 pub mod State
 pub mod Values

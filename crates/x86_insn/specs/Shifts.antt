@@ -1,8 +1,8 @@
 -- Values and flags of shifts and rotates, over whole numbers. Intel SDM, volume 2.
 -- A count is taken modulo 32; a shift by 0 changes nothing. What the SDM leaves undefined is this project's own: OF after
 -- a shift by more than 1 is 0, AF after a shift is 0, and CF after SHL and SHR by the width or more is 0.
-use Rattle.std.specs.Prelude.{ℕ, ◌+◌, ◌-◌, ◌*◌, ◌/◌, ◌%◌, ◌^◌, Bool, true, false, ◌&&◌, if◌then◌else◌, ℤ, pos, unsigned_abs, nat_lt, ◌==◌}
-use Rattle.std.specs.Bool.{xor}
+use Rattle.std.specs.Prelude.{ℕ, ◌+◌, ◌-◌, ◌*◌, ◌/◌, ◌%◌, ◌^◌, Bool, true, false, not, ◌&&◌, if◌then◌else◌, ℤ, pos, unsigned_abs, nat_lt, ◌==◌}
+use Rattle.std.specs.Bool.{beq}
 use Rattle.std.specs.Int.{int_div_euclid, int_rem_euclid, from_bool}
 use Rattle.x86_insn.specs.declared.flags.Flags.{Flags}
 use Rattle.x86_insn.specs.declared.insn.Width.{Width}
@@ -18,6 +18,10 @@ places count = count % 32
 -- bit k of a
 abbrev pub is_set : ℕ → ℕ → Bool
 is_set k a = a / 2 ^ k % 2 == 1
+
+-- one of the two alone
+abbrev pub differ : Bool → Bool → Bool
+differ a b = not (beq a b)
 
 -- a signed number divided by 2 to the n, rounded down
 abbrev pub halved : ℕ → ℤ → ℤ
@@ -64,11 +68,11 @@ shifted_out Sar w a n f = unsigned_abs (int_rem_euclid (halved (n - 1) (signed_v
 
 -- OF after a shift by 1
 abbrev pub overflow_of_one : ShiftOp → Width → ℕ → Flags → Bool
-overflow_of_one Rol w a f = xor (top w (shifted Rol w a 1 f)) (shifted_out Rol w a 1 f)
-overflow_of_one Ror w a f = xor (top w (shifted Ror w a 1 f)) (is_set (width_bits w - 2) (shifted Ror w a 1 f))
-overflow_of_one Rcl w a f = xor (top w (shifted Rcl w a 1 f)) (shifted_out Rcl w a 1 f)
-overflow_of_one Rcr w a f = xor (top w a) f.cf
-overflow_of_one Shl w a f = xor (top w (shifted Shl w a 1 f)) (shifted_out Shl w a 1 f)
+overflow_of_one Rol w a f = differ (top w (shifted Rol w a 1 f)) (shifted_out Rol w a 1 f)
+overflow_of_one Ror w a f = differ (top w (shifted Ror w a 1 f)) (is_set (width_bits w - 2) (shifted Ror w a 1 f))
+overflow_of_one Rcl w a f = differ (top w (shifted Rcl w a 1 f)) (shifted_out Rcl w a 1 f)
+overflow_of_one Rcr w a f = differ (top w a) f.cf
+overflow_of_one Shl w a f = differ (top w (shifted Shl w a 1 f)) (shifted_out Shl w a 1 f)
 overflow_of_one Shr w a f = top w a
 overflow_of_one Sar w a f = false
 
@@ -111,7 +115,7 @@ filled_out false a n = is_set (n - 1) a
 abbrev pub filled_flags : Bool → ℕ → ℕ → ℕ → Flags → Flags
 filled_flags left a b n f = record (szp D (filled left a b n) f) {
   cf = filled_out left a n;
-  of = (n == 1) && xor (top D (filled left a b 1)) (top D a);
+  of = (n == 1) && differ (top D (filled left a b 1)) (top D a);
   af = false;
 }
 

@@ -1,0 +1,4 @@
+pub mod Masks
+pub mod Turns
+pub mod Places
+pub mod Signs
