@@ -6,10 +6,6 @@ pub mod Products
 pub mod Bits
 pub mod Spelling
 pub mod State
-pub mod Values
-pub mod Shifts
-pub mod Products
-pub mod Bits
 pub mod Conditions
 pub mod Operands
 pub mod Ask

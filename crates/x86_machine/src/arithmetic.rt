@@ -1,7 +1,7 @@
 //! Rounds of arithmetic: values and flags, read, computed and written back. Intel SDM, volume 2. A destination in
 //! memory that is read and written is read first.
 
-ghost use Rattle.std.specs.Prelude.{◌≡◌, ◌<◌, IfSome, ◌×◌};
+ghost use Rattle.std.specs.Prelude.{◌≡◌, ◌<◌, IfSome};
 ghost use Rattle.x86_insn.specs.Values.{modulus};
 ghost use Rattle.x86_insn.specs.Arithmetic.{alu_end, alu_with, alu_round, test_with, test_round, bump_round, unary_end, unary_round, xadd_round, cmpxchg_end, cmpxchg_round, set_double, high_half, mul_end, mul_round, div_end, div_round, second_factor, imul_end, imul_round};
 
