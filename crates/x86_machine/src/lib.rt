@@ -6,6 +6,7 @@ mod bits;
 mod conditions;
 mod moves;
 mod operands;
+mod round;
 mod stack;
 mod strings;
 mod transfers;
