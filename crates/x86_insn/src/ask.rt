@@ -10,6 +10,51 @@ use std::marker::Model;
 /// How many bytes an access has at most: eight registers.
 pub const ACCESS_LEN: usize = 32;
 
+/// How many bytes an access has, at most 32, which contracts see as a number.
+#[derive(Clone, Copy)]
+pub struct AccessLen {
+    len: usize,
+}
+
+impl Model for AccessLen {
+    ghost use Rattle.std.specs.Prelude.{ℕ, ◌≤◌};
+
+    ghost Value = { ℕ };
+
+    ghost view = { λ l. l.len };
+
+    ghost inverse = { λ n. record { len = n } };
+
+    ghost invariant = { λ l. l.len ≤ 32 };
+}
+
+impl AccessLen {
+    ghost use Rattle.std.specs.Prelude.{◌≡◌, ◌≤◌};
+    ghost use Rattle.x86_insn.specs.Values.{width_bytes};
+
+    /// The bytes of a value of a width.
+    pub fn of(width: Width) -> AccessLen
+        ensures { result ≡ width_bytes width }
+    {
+        AccessLen { len: width.bytes() }
+    }
+
+    /// The bytes of eight registers.
+    pub fn registers() -> AccessLen
+        ensures { result ≡ ACCESS_LEN }
+    {
+        AccessLen { len: ACCESS_LEN }
+    }
+
+    /// The number of bytes.
+    pub fn get(self) -> usize
+        ensures is { result ≡ self }
+        ensures at_most { result ≤ ACCESS_LEN }
+    {
+        self.len
+    }
+}
+
 /// The bytes of one access, at most 32, which contracts see as a list.
 #[derive(Drop)]
 pub struct AccessBytes {
@@ -112,7 +157,7 @@ fn in_room(bytes: &[u8]) -> [u8; 32]
 pub enum Ask<E: Drop> {
     Reads {
         at: u32,
-        len: usize,
+        len: AccessLen,
     },
     Halts(Stop),
     Ends {

@@ -10,7 +10,7 @@ pub mod flags;
 pub mod insn;
 pub mod stop;
 
-pub use ask::{ACCESS_LEN, AccessBytes, Ask};
+pub use ask::{ACCESS_LEN, AccessBytes, AccessLen, Ask};
 pub use registers::Core;
 pub use flags::Flags;
 pub use insn::{

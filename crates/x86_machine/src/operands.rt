@@ -7,7 +7,7 @@ ghost use Rattle.mv_base.specs.Memory.{address_after};
 ghost use Rattle.x86_insn.specs.declared.insn.Width.TheVariants.{D};
 ghost use Rattle.x86_insn.specs.Values.{modulus};
 
-use x86_insn::{AccessBytes, Ask, Core, Flags, Mem, Reg, Rm, Src, Width};
+use x86_insn::{AccessBytes, AccessLen, Ask, Core, Flags, Mem, Reg, Rm, Src, Width};
 
 /// AH is the byte register of number 4.
 pub const AH: Reg = Reg::Esp;
@@ -137,7 +137,7 @@ pub fn set_reg(width: Width, reg: Reg, value: u32, core: &Core) -> Core
 
 /// What an instruction goes on with: a number and the byte lists that are left for later reads; or the place and the
 /// length of the bytes that it has to ask for first.
-pub type Got<'a> = Result<(u32, &'a [AccessBytes]), (u32, usize)>;
+pub type Got<'a> = Result<(u32, &'a [AccessBytes]), (u32, AccessLen)>;
 
 /// The number of a width at a place.
 #[tactic(auto, unfolding(x86_insn::specs::Ask::got_at))]
@@ -148,7 +148,7 @@ pub fn got_at(at: u32, width: Width, got: &[AccessBytes]) -> Got
 {
     match got.split_first() {
         Some((bytes, rest)) => Ok((bytes.number(width), rest)),
-        None => Err((at, width.bytes())),
+        None => Err((at, AccessLen::of(width))),
     }
 }
 

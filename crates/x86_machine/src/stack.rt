@@ -6,7 +6,7 @@ ghost use Rattle.x86_insn.specs.Moves.{risen, lowered, pushes, push_round, pop_r
 use crate::operands::{
     AH, address_after, address_before, bytes_of, ends, ends_in, got_at, got_src, reg, reg_value, set_reg, with_flags,
 };
-use x86_insn::{AccessBytes, Ask, Core, FlagOp, Flags, Reg, Rm, Src, Stop, Width};
+use x86_insn::{AccessBytes, AccessLen, Ask, Core, FlagOp, Flags, Reg, Rm, Src, Stop, Width};
 
 /// The core with ESP raised.
 pub fn risen(len: u32, core: &Core) -> Core
@@ -115,7 +115,10 @@ pub fn popad_round(core: &Core, got: &[AccessBytes]) -> Ask<bool>
                 flags: core.flags,
             },
         ),
-        None => Ask::Reads { at: esp, len: 32 },
+        None => Ask::Reads {
+            at: esp,
+            len: AccessLen::registers(),
+        },
     }
 }
 
