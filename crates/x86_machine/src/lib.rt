@@ -7,6 +7,8 @@ mod conditions;
 mod moves;
 mod operands;
 mod round;
+mod running;
 mod stack;
 mod strings;
 mod transfers;
+mod turns;

@@ -1,0 +1,2 @@
+-- lemmas that the proofs of this crate share
+pub mod Rounding

@@ -1,0 +1,31 @@
+-- Rounds one after the other: what is left of them comes to the same as all of them.
+use Rattle.std.proofs.Common.{◌≡◌, ℕ, zero, suc, ◌-◌, ◌<◌, ◌≤◌, Bool, true, false, refl, sym, ap, ◌∙◌, arith}
+use Rattle.mv_base.specs.Memory.{Memory}
+use Rattle.x86_insn.specs.declared.insn.Insn.{Insn}
+use Rattle.x86_insn.specs.declared.registers.Core.{Core}
+use Rattle.x86_insn.specs.declared.stop.Stop.{Stop}
+use Rattle.x86_insn.specs.Round.{round}
+use Rattle.x86_insn.specs.Step.{Turn, Ended, Halted, turn, Rounds, Completed, Broken, after_turn, rounds}
+
+rounds-more : (n : ℕ) (i : Insn) (c : Core) (m : Memory) → 0 < n → rounds n i c m ≡ after_turn (turn m (round i c)) c m (rounds (n - 1) i)
+unfolding rounds
+rounds-more zero i c m some = absurd (omega arith)
+rounds-more (suc n) i c m some = let less : n ≡ suc n - 1 = omega arith in ap (λ k. after_turn (turn m (round i c)) c m (rounds k i)) less
+
+module _ (all : Rounds) (n : ℕ) (i : Insn) (c : Core) (m : Memory) (left : all ≡ rounds n i c m) where
+  -- one more round, and then others
+  pub goes-on : (d : Core) (m' : Memory) (again : Bool) → 0 < n → turn m (round i c) ≡ Ended d m' again → again ≡ true → all ≡ rounds (n - 1) i d m'
+  goes-on d m' again some is yes_again = left ∙ rounds-more n i c m some ∙ ap (λ t. after_turn t c m (rounds (n - 1) i)) (is ∙ ap (Ended d m') yes_again)
+
+  -- the last round
+  pub ends-there : (d : Core) (m' : Memory) (again : Bool) → 0 < n → turn m (round i c) ≡ Ended d m' again → again ≡ false → all ≡ Completed d m'
+  ends-there d m' again some is last = left ∙ rounds-more n i c m some ∙ ap (λ t. after_turn t c m (rounds (n - 1) i)) (is ∙ ap (Ended d m') last)
+
+  -- a round that stops; the memory is as it was before it
+  pub stops-there : (why : Stop) (m' : Memory) → 0 < n → turn m (round i c) ≡ Halted why → m' ≡ m → all ≡ Broken why c m'
+  stops-there why m' some is same = left ∙ rounds-more n i c m some ∙ ap (λ t. after_turn t c m (rounds (n - 1) i)) is ∙ ap (Broken why c) (sym same)
+
+  -- no round is left
+  pub none-left : n ≤ 0 → all ≡ Completed c m
+  unfolding rounds
+  none-left none = let zero_left : n ≡ 0 = omega arith in left ∙ ap (λ k. rounds k i c m) zero_left
