@@ -1,17 +1,14 @@
-// Values and flags as this machine's processor gives them.
-//   alu make ASKED WANTED            writes commands for the program `probe`, and what the processor answers to each
-//   alu compare ASKED WANTED GIVEN   compares the program's answers with the processor's
-// A line of WANTED is: the mask of the flags that the Intel manual defines, then the answer. Random numbers are from a
-// fixed seed, so that two runs make the same files.
+// Writes commands for the program `probe` to the file that the first word names, and the expected answers to the second:
+// values and flags as this machine's processor gives them. The flags that the Intel manual leaves undefined are this
+// project's own, 0 but for SF after IMUL, and are written so. Random numbers are from a fixed seed.
 #include <setjmp.h>
 #include <signal.h>
 #include <stdint.h>
 #include <stdio.h>
-#include <stdlib.h>
 #include <string.h>
 
 enum { CF = 0x1, PF = 0x4, AF = 0x10, ZF = 0x40, SF = 0x80, DF = 0x400, OF = 0x800, ID = 0x200000 };
-enum { ALL = CF | PF | AF | ZF | SF | DF | OF | ID, SHOWN = ALL | 0x202 };
+enum { ALL = CF | PF | AF | ZF | SF | DF | OF | ID, ALWAYS = 0x202 };
 
 enum kind { BINARY, LOGIC, TEST, UNARY, SHIFT, ROTATE, DOUBLE, MUL, DIV, BIT, SCAN };
 static const struct { const char *name; enum kind kind; } ops[] = {
@@ -71,21 +68,19 @@ static void line(FILE *asked, FILE *wanted, int k, int w, unsigned flags, uint32
     const char *name = ops[k].name;
     enum kind kind = ops[k].kind;
     uint32_t mask = w == 32 ? 0xffffffffu : (1u << w) - 1;
-    fprintf(asked, "alu %s %c %x %x %x %x\n", name, w == 8 ? 'b' : w == 16 ? 'w' : 'd', flags | 0x202, x, y, z);
-    f = flags | 0x202, a = x, b = y, c = kind == DOUBLE ? z : y, d = 0;
+    fprintf(asked, "alu %s %c %x %x %x %x\n", name, w == 8 ? 'b' : w == 16 ? 'w' : 'd', flags | ALWAYS, x, y, z);
+    f = flags | ALWAYS, a = x, b = y, c = kind == DOUBLE ? z : y, d = 0;
     if (kind == SCAN) b = x;
     if (kind == DIV) { a = w == 8 ? x << 8 | y : y, d = x, b = z; }
-    unsigned m = defined(kind, name, w, c % 32);
-    if (sigsetjmp(trapped, 1)) { fprintf(wanted, "0 trap\n"); return; }
+    if (sigsetjmp(trapped, 1)) { fprintf(wanted, "trap\n"); return; }
     execute(name, w);
-    unsigned image = g & SHOWN;
-    if (kind == TEST) fprintf(wanted, "%x %x\n", m, image);
-    else if (kind == SCAN && x == 0) fprintf(wanted, "%x none %x\n", m, image);
-    else if ((kind == MUL || kind == DIV) && w == 8)
-        fprintf(wanted, "%x %x %x %x\n", m, (unsigned)(a & 0xff), (unsigned)(a >> 8 & 0xff), image);
+    unsigned low = a & mask, image = (g & defined(kind, name, w, c % 32)) | ALWAYS;
+    if (IS("imul") && (a >> (w - 1) & 1)) image |= SF;
+    if (kind == TEST) fprintf(wanted, "%x\n", image);
+    else if (kind == SCAN && x == 0) fprintf(wanted, "none %x\n", image);
     else if (kind == MUL || kind == DIV)
-        fprintf(wanted, "%x %x %x %x\n", m, (unsigned)a & mask, (unsigned)d & mask, image);
-    else fprintf(wanted, "%x %x %x\n", m, (unsigned)a & mask, image);
+        fprintf(wanted, "%x %x %x\n", low, w == 8 ? (unsigned)(a >> 8 & 0xff) : (unsigned)(d & mask), image);
+    else fprintf(wanted, "%x %x\n", low, image);
 }
 
 static uint64_t seed = 88172645463325252u;
@@ -119,37 +114,4 @@ static int make(const char *to_ask, const char *to_want, int turns) {
     return fclose(asked) | fclose(wanted) ? 2 : 0;
 }
 
-// One answer is the processor's: equal words but for the last, the image, which is compared under the mask.
-static int same(const char *want, const char *given) {
-    char *rest;
-    unsigned m = strtoul(want, &rest, 16);
-    want = rest + 1;
-    const char *last = strrchr(want, ' '), *its = strrchr(given, ' ');
-    if (m == 0) return strcmp(want, given) == 0;
-    if ((last == NULL) != (its == NULL)) return 0;
-    if (last && (last - want != its - given || strncmp(want, given, last - want))) return 0;
-    unsigned one = strtoul(last ? last + 1 : want, NULL, 16), other = strtoul(its ? its + 1 : given, NULL, 16);
-    return (one & (m | 0x202)) == (other & (m | 0x202));
-}
-
-static int compare(char **names) {
-    FILE *asked = fopen(names[0], "r"), *wanted = fopen(names[1], "r"), *given = fopen(names[2], "r");
-    char command[128], want[128], answer[128];
-    int lines = 0, bad = 0;
-    if (!asked || !wanted || !given) return 2;
-    while (fgets(command, 128, asked) && fgets(want, 128, wanted)) {
-        lines++;
-        if (!fgets(answer, 128, given)) strcpy(answer, "nothing\n");
-        command[strcspn(command, "\n")] = want[strcspn(want, "\n")] = answer[strcspn(answer, "\n")] = 0;
-        if (!same(want, answer) && bad++ < 20) printf("%s: %s, the processor (mask first): %s\n", command, answer, want);
-    }
-    if (fgets(answer, 128, given)) bad++, printf("more answers than commands\n");
-    printf("%d operations, %d that differ\n", lines, bad);
-    return lines == 0 || bad != 0;
-}
-
-int main(int count, char **words) {
-    if (count == 4 && strcmp(words[1], "make") == 0) return make(words[2], words[3], 600);
-    if (count == 5 && strcmp(words[1], "compare") == 0) return compare(words + 2);
-    return 2;
-}
+int main(int count, char **words) { return count == 3 ? make(words[1], words[2], 600) : 2; }
