@@ -6,6 +6,8 @@ use Rattle.std.proofs.lemmas.Bool.{cases_lt}
 use Rattle.std.proofs.Math.Nat.{pow-suc}
 use Rattle.std.proofs.lemmas.Nat.Bits.{bit_at-trailing_zeros, bit_at_above}
 use Rattle.std.specs.Prelude.{IsTrue}
+use Rattle.x86_insn.specs.declared.insn.Width.{Width}
+use Rattle.x86_insn.specs.Values.{width_bits, modulus}
 use Rattle.x86_insn.specs.Shifts.{is_set}
 use Rattle.x86_insn.specs.Bits.{IsLowestSet, IsHighestSet}
 
@@ -28,5 +30,11 @@ highest a h fits =
     rw is (record { set = eq-eqb _ _ (top_bit a at.0 at.2 at.3); above = λ j b. grind (arith, bit_at_above a (suc at.0) j at.3 (omega arith)) })
 
 -- a bit that is set lies below the number's size
-pub within : (a k m : ℕ) → IsTrue (is_set k a) → a < 2 ^ m → k < m
+within : (a k m : ℕ) → IsTrue (is_set k a) → a < 2 ^ m → k < m
 within a k m h fits = elim (cases_lt k m) [ inl below ↦ below | inr above ↦ grind (arith, h, bit_at_above a m k fits above) ]
+
+pub lowest_within : (w : Width) (a : ℕ) → 0 < a → a < 2 ^ 32 → a < modulus w → trailing_zeros w32 a < width_bits w
+lowest_within w a h fits below = within a (trailing_zeros w32 a) (width_bits w) (lowest a h fits).set below
+
+pub highest_within : (w : Width) (a : ℕ) → 0 < a → a < 2 ^ 32 → a < modulus w → 31 - leading_zeros w32 a < width_bits w
+highest_within w a h fits below = within a (31 - leading_zeros w32 a) (width_bits w) (highest a h fits).set below

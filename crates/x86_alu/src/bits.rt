@@ -55,7 +55,7 @@ pub(crate) fn is_set(a: u32, place: u32) -> bool
 
 /// The place of the lowest bit of `a` that is set, or of the highest where not `up`, and the flags of BSF and BSR.
 /// `None` exactly where `a` is 0.
-#[tactic(auto, using(crate::proofs::Places::lowest, crate::proofs::Places::highest))]
+#[tactic(auto, using(crate::proofs::Places::lowest, crate::proofs::Places::highest, crate::proofs::Places::lowest_within, crate::proofs::Places::highest_within))]
 pub fn scan(up: bool, w: Width, a: u32, f: Flags) -> (Option<u32>, Flags)
     requires { a < modulus_of w }
     ensures value { result.0 ≡ scan_value up a }

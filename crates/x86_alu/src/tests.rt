@@ -51,7 +51,10 @@ fn values_and_flag_images(rt: HostRuntime) {
     }
     assert_eq!(rt; logic_test(Width::B, 0xf0, 0x0f, CLEAR).image(), 0x246);
     assert_eq!(rt; (first, last, scanned.image()), (Some(4), Some(6), 0x202));
-    assert_eq!(rt; div(true, Width::D, 0xffff_ffff, 0x8000_0000, 0xffff_ffff, CLEAR), None);
+    assert_eq!(rt;
+        div(true, Width::D, 0xffff_ffff, 0x8000_0000, 0xffff_ffff, CLEAR),
+        None
+    );
     assert_eq!(rt;
         div(true, Width::B, 0xff, 0xf9, 2, OTHERS).map(|r| (r.0, r.1, r.2.image())),
         Some((0xfd, 0xff, 0x20_0602))
