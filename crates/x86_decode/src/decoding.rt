@@ -1,7 +1,7 @@
 //! Decoding: the instruction that the first bytes of a list spell. Intel SDM, volume 2.
 
 ghost use Rattle.std.specs.Prelude.{◌≡◌, ◌+◌, ◌<◌, ◌∷◌};
-ghost use Rattle.mv_rewrite.specs.Decoding.{IsDecoded};
+ghost use Rattle.x86_decode.specs.Decoding.{IsDecoded};
 ghost use Rattle.x86_insn.specs.Spelling.{reg_of};
 
 use mv_base::u32_at;

@@ -10,8 +10,8 @@ use Rattle.x86_insn.specs.declared.insn.Width.TheVariants.{D}
 use Rattle.x86_insn.specs.declared.insn.Rm.TheVariants as rm
 use Rattle.x86_insn.specs.declared.insn.Src.TheVariants as src
 use Rattle.x86_insn.specs.Spelling.{Row, MovImm, NopKind, JumpNear, SystemCall as Call, Halt as HaltKind, spelled_from, spelled_by, spelled_by_row, rows, spelled, first_spelled, decoded, or_else, reg_of}
-use Rattle.mv_rewrite.specs.Decoding.{IsDecoded}
-use Rattle.mv_rewrite.specs.declared.decoding.Decoded.TheVariants.{Insn as Found, Short, Unknown}
+use Rattle.x86_decode.specs.Decoding.{IsDecoded}
+use Rattle.x86_decode.specs.declared.decoding.Decoded.TheVariants.{Insn as Found, Short, Unknown}
 
 -- the rows by name
 abbrev move_row : Row
@@ -84,7 +84,7 @@ unfolding spelled
 shape [] i h = absurd (cc)
 shape (op ∷ operand) i h = shape_by_rows op operand i (within_limit _ _ i h)
 
-none_by : (o : Option Insn) → ((i : Insn) → o ≡ Some i → ⊥) → o ≡ None
+pub none_by : (o : Option Insn) → ((i : Insn) → o ≡ Some i → ⊥) → o ≡ None
 none_by None h = refl
 none_by (Some i) h = absurd (h i refl)
 

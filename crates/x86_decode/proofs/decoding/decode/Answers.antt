@@ -1,9 +1,9 @@
 use Rattle.std.proofs.Common.{List, ℕ, ap, length, sym, subst, arith}
 use Rattle.std.proofs.lemmas.List.{nil_from_length}
-use Rattle.mv_rewrite.specs.Decoding.{IsDecoded}
-use Rattle.mv_rewrite.specs.declared.decoding.Decoded.TheVariants.{Short, Unknown}
-use Rattle.mv_rewrite.proofs.Spellings.{empty_short, nop_decoded, halt_decoded, other_unknown}
-use Rattle.mv_rewrite.proofs.decoding.decode.Goals as goal
+use Rattle.x86_decode.specs.Decoding.{IsDecoded}
+use Rattle.x86_decode.specs.declared.decoding.Decoded.TheVariants.{Short, Unknown}
+use Rattle.x86_decode.specs.Spellings.{empty_short, nop_decoded, halt_decoded, other_unknown}
+use Rattle.x86_decode.proofs.decoding.decode.Goals as goal
 
 pub returns-in_default : goal.returns-in_default
 returns-in_default c =

@@ -1,9 +1,9 @@
 use Rattle.std.proofs.Common.{List, ℕ, ◌∷◌, sym, subst, arith}
 use Rattle.std.proofs.lemmas.List.{nil_from_length}
-use Rattle.mv_rewrite.specs.Decoding.{IsDecoded}
-use Rattle.mv_rewrite.specs.declared.decoding.Decoded.TheVariants.{Short}
-use Rattle.mv_rewrite.proofs.Spellings.{call_short, call_decoded_at, call_unknown_at}
-use Rattle.mv_rewrite.proofs.decoding.interrupt.Goals as goal
+use Rattle.x86_decode.specs.Decoding.{IsDecoded}
+use Rattle.x86_decode.specs.declared.decoding.Decoded.TheVariants.{Short}
+use Rattle.x86_decode.specs.Spellings.{call_short, call_decoded_at, call_unknown_at}
+use Rattle.x86_decode.proofs.decoding.interrupt.Goals as goal
 
 pub returns-in_default : goal.returns-in_default
 returns-in_default c =

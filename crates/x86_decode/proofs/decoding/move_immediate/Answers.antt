@@ -1,6 +1,6 @@
 use Rattle.std.proofs.Common.{arith}
-use Rattle.mv_rewrite.proofs.Spellings.{move_is, move_short}
-use Rattle.mv_rewrite.proofs.decoding.move_immediate.Goals as goal
+use Rattle.x86_decode.specs.Spellings.{move_is, move_short}
+use Rattle.x86_decode.proofs.decoding.move_immediate.Goals as goal
 
 pub returns-in-Some : goal.returns-in-Some
 returns-in-Some c =

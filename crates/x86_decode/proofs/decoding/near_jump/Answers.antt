@@ -1,7 +1,7 @@
 use Rattle.std.proofs.Common.{Some, ap, sym, ◌∙◌, arith}
 use Rattle.x86_insn.specs.declared.insn.Insn.TheVariants.{Jump}
-use Rattle.mv_rewrite.proofs.Spellings.{jump_is, jump_short}
-use Rattle.mv_rewrite.proofs.decoding.near_jump.Goals as goal
+use Rattle.x86_decode.specs.Spellings.{jump_is, jump_short}
+use Rattle.x86_decode.proofs.decoding.near_jump.Goals as goal
 
 pub returns-in-Some : goal.returns-in-Some
 returns-in-Some c =

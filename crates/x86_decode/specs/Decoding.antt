@@ -3,8 +3,8 @@
 use Rattle.std.specs.Prelude.{◌≡◌, ℕ, ◌<◌, ◌≤◌, List, ◌++◌, length, Some, None, IsSome}
 use Rattle.mv_base.specs.Bytes.{AreBytes}
 use Rattle.x86_insn.specs.Spelling.{spelled, decoded}
-use Rattle.mv_rewrite.specs.declared.decoding.Decoded.{Decoded}
-use Rattle.mv_rewrite.specs.declared.decoding.Decoded.TheVariants.{Insn, Short, Unknown}
+use Rattle.x86_decode.specs.declared.decoding.Decoded.{Decoded}
+use Rattle.x86_decode.specs.declared.decoding.Decoded.TheVariants.{Insn, Short, Unknown}
 
 -- more bytes, at least one, make the bytes a spelling
 abbrev pub BeginsSpelling : List ℕ → Type 0
