@@ -1,16 +1,25 @@
-//! Sites: decoding from every byte of the runs.
+//! Superset disassembly: decoding at every byte of the runs.
 
 ghost use Rattle.std.specs.Prelude.{◌≡◌, ◌+◌, ◌<◌, ◌≤◌, [], ◌∷◌, ◌++◌, length, IfOk, OnOk};
 ghost use Rattle.elf32_read.specs.Runs.{code_of, AreApart};
-ghost use Rattle.mv_rewrite.specs.Sites.{site_at, sites_in};
+ghost use Rattle.superset.specs.Sites.{site_at, sites_in};
 
-use crate::decoding::{Decoded, decode};
 use crate::site::Site;
 use elf32_read::Run;
 use mv_base::NoMemory;
 use std::alloc::Global;
+use x86_decode::{Decoded, decode};
 
-/// All sites of the runs, ascending. The runs ascend with a gap between any two.
+/// How many bytes an instruction has at most.
+const LONGEST: usize = 15;
+
+/// All sites of the runs, ascending: the addresses at which an instruction lies wholly in the runs' bytes. It decodes
+/// once at each address, and looks at no more than 15 bytes there. The runs ascend with a gap between any two, and end
+/// at most at 0xFFFFF000.
+///
+/// # Errors
+///
+/// `NoMemory`.
 pub fn sites(alloc: Global, runs: &[Run]) -> Result<Vec<Site>, NoMemory>
     requires { AreApart 0 runs.now }
     ensures { IfOk result (λ found. found.items ≡ sites_in (code_of runs.now) runs.now) }
@@ -42,7 +51,8 @@ fn site_in(run: &Run, offset: usize) -> Option<Site>
     requires ends { run.now.lo + length run.now.bytes ≤ 0xFFFFF000 }
     ensures { result ≡ site_at (code_of (run.now ∷ [])) (run.now.lo + offset) }
 {
-    match decode(&run.bytes.as_slice()[offset..]) {
+    let tail = &run.bytes.as_slice()[offset..];
+    match decode(&tail[..LONGEST.min(tail.len())]) {
         Decoded::Insn { insn, len } => Some(Site {
             at: run.lo + offset as u32,
             len,

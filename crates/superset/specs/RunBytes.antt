@@ -1,21 +1,14 @@
--- The sites of runs are those of each run by itself.
+-- The executable bytes of runs, from an address on.
 use Rattle.std.proofs.Common.{◌≡◌, ℕ, zero, suc, ◌+◌, ◌-◌, ◌<◌, ◌≤◌, ◌⊎◌, true, false, List, [], ◌∷◌, ◌++◌, length, take, drop, get_or, Option, Some, None, refl, sym, ap, ◌∙◌, subst, inl, inr, arith}
 use Rattle.std.specs.Prelude.{slice_get}
-use Rattle.std.specs.List.{filter_map, flat_map, range_with_len}
+use Rattle.std.specs.List.{range_with_len}
 use Rattle.std.proofs.lemmas.Bool.{cases_lt}
 use Rattle.std.proofs.lemmas.Bool.Decides.{nat_tests}
-use Rattle.std.proofs.lemmas.List.{append-nil, append_assoc, drop_more, drop_all, take_rest}
-use Rattle.std.proofs.lemmas.List.Elements.{filter_map-append}
+use Rattle.std.proofs.lemmas.List.{drop_more, drop_all}
 use Rattle.std.proofs.lemmas.Option.{slice_get-get_or, slice_get_past}
 use Rattle.mv_base.specs.Memory.{exec_bytes, within}
-use Rattle.x86_insn.specs.declared.insn.Insn.{Insn}
-use Rattle.x86_insn.specs.Spelling.{decoded}
-use Rattle.x86_insn.specs.Step.{fetch_in, fetched}
 use Rattle.elf32_read.specs.declared.run.Run.{Run}
 use Rattle.elf32_read.specs.Runs.{code_of, AreApart}
-use Rattle.mv_rewrite.specs.declared.site.Site.{Site}
-use Rattle.mv_rewrite.specs.Sites.{site_at, site_found, run_addresses, addresses, sites_in}
-use Rattle.mv_rewrite.proofs.Fronts.{decoded_take}
 
 -- the executable bytes from an address on, one step at a time
 pub exec_none : (code : ℕ → Option ℕ) (a n : ℕ) → code a ≡ None → exec_bytes code a n ≡ []
@@ -72,15 +65,6 @@ exec_run r (suc n) k =
           here ∙ ap (λ (t : List ℕ). w.0 ∷ t) rest ∙ sym (ap (take (suc n)) w.2)
     ]
 
-site_by : (code : ℕ → Option ℕ) (a b : ℕ) (d : Option (Insn × ℕ)) → code a ≡ Some b → decoded (exec_bytes code a 15) ≡ d → site_at code a ≡ site_found a (fetched (Some b) d)
-unfolding fetch_in
-site_by code a b d h e = rw (h, e)
-
--- the site at an offset of a run, by what the bytes from there on decode to
-pub site_of_run : (r : Run) (k : ℕ) (d : Option (Insn × ℕ)) → k < length r.bytes → decoded (drop k r.bytes) ≡ d → site_at (code_of (r ∷ [])) (r.lo + k) ≡ site_found (r.lo + k) (fetched (Some (get_or r.bytes k 0)) d)
-site_of_run r k d l e =
-    site_by (code_of (r ∷ [])) (r.lo + k) (get_or r.bytes k 0) d (run_byte r k ∙ slice_get-get_or r.bytes k 0 l) (ap decoded (exec_run r 15 k) ∙ decoded_take (drop k r.bytes) ∙ e)
-
 pub byte_cases : (o : Option ℕ) → (o ≡ None) ⊎ ((x : ℕ) × (o ≡ Some x))
 byte_cases None = inl refl
 byte_cases (Some x) = inr (x, refl)
@@ -103,10 +87,6 @@ exec_same c d (suc n) a hi l none same =
           ]
     ]
 
-site_same : (c d : ℕ → Option ℕ) (a hi : ℕ) → a ≤ hi → d hi ≡ None → ((b : ℕ) → a ≤ b → b ≤ hi → c b ≡ d b) → site_at c a ≡ site_at d a
-unfolding fetch_in
-site_same c d a hi l none same = rw (same a (omega arith) l, exec_same c d 15 a hi l none same) refl
-
 pub code_below : (from : ℕ) (rs : List Run) → AreApart from rs → (b : ℕ) → b < from → code_of rs b ≡ None
 code_below from [] apart b l = refl
 code_below from (r ∷ rs) apart b l =
@@ -118,64 +98,12 @@ code_first from r rs apart b l = rw (code_below (r.lo + length r.bytes + 1) rs a
 pub code_later : (r : Run) (rs : List Run) (b : ℕ) → r.lo + length r.bytes ≤ b → code_of (r ∷ rs) b ≡ code_of rs b
 code_later r rs b l = rw (outside_above r.lo (length r.bytes) b l)
 
-filter_same : (f g : ℕ → Option Site) (n lo : ℕ) → ((k : ℕ) → k < n → f (lo + k) ≡ g (lo + k)) → filter_map f (range_with_len lo n) ≡ filter_map g (range_with_len lo n)
-filter_same f g zero lo same = refl
-filter_same f g (suc n) lo same =
-    let first : f lo ≡ g lo = subst (λ (a : ℕ). f a ≡ g a) (omega arith) (same 0 (omega arith)) in
-    let rest = filter_same f g n (lo + 1) (λ k l. subst (λ (a : ℕ). f a ≡ g a) (omega arith) (same (k + 1) (omega arith))) in
-    rw (first, rest) refl
-
--- the sites of a run by itself
-abbrev pub run_sites : Run → List Site
-run_sites r = sites_in (code_of (r ∷ [])) (r ∷ [])
-
-pub run_sites_are : (r : Run) → run_sites r ≡ filter_map (site_at (code_of (r ∷ []))) (run_addresses r)
-unfolding sites_in addresses
-run_sites_are r = ap (filter_map (site_at (code_of (r ∷ [])))) (append-nil (run_addresses r))
-
-split : (code : ℕ → Option ℕ) (from : ℕ) (rs : List Run) → AreApart from rs → ((b : ℕ) → from ≤ b → code b ≡ code_of rs b) → filter_map (site_at code) (flat_map run_addresses rs) ≡ flat_map run_sites rs
-split code from [] apart same = refl
-split code from (r ∷ rs) apart same =
-    let len = length r.bytes in
-    let end : code_of (r ∷ []) (r.lo + len) ≡ None = run_byte r len ∙ slice_get_past r.bytes len (omega arith) in
-    let first = filter_same (site_at code) (site_at (code_of (r ∷ []))) len r.lo (λ k l.
-    site_same code (code_of (r ∷ [])) (r.lo + k) (r.lo + len) (omega arith) end (λ b low high.
-    same b (omega (arith, apart.0)) ∙ code_first from r rs apart b high)) in
-    let rest = split code (r.lo + len + 1) rs apart.3 (λ b low. same b (omega (arith, apart.0)) ∙ code_later r rs b (omega arith)) in
-    filter_map-append (site_at code) (run_addresses r) (flat_map run_addresses rs)
-    ∙ ap (λ (t : List Site). t ++ filter_map (site_at code) (flat_map run_addresses rs)) (first ∙ sym (run_sites_are r))
-    ∙ ap (λ (t : List Site). run_sites r ++ t) rest
-
--- the sites of runs are those of each run, one after the other
-pub sites_split : (rs : List Run) → AreApart 0 rs → sites_in (code_of rs) rs ≡ flat_map run_sites rs
-unfolding sites_in addresses
-sites_split rs apart = split (code_of rs) 0 rs apart (λ b l. refl)
-
--- what a tail of a slice decodes to
-pub decoded_tail : (ys xs : List ℕ) (k : ℕ) (d : Option (Insn × ℕ)) → ys ≡ xs → decoded (take (length ys - k) (drop k ys)) ≡ d → decoded (drop k xs) ≡ d
-decoded_tail ys xs k d e h = ap (λ (s : List ℕ). decoded (drop k s)) (sym e) ∙ sym (ap decoded (take_rest ys k)) ∙ h
-
 pub range_more : (n lo : ℕ) → range_with_len lo (n + 1) ≡ range_with_len lo n ++ (lo + n) ∷ []
 range_more zero lo = ap (λ (a : ℕ). a ∷ []) (omega arith)
 range_more (suc n) lo =
     let e : suc n + 1 ≡ suc (n + 1) = omega arith in
     let f : lo + 1 + n ≡ lo + suc n = omega arith in
     rw e (ap (λ (t : List ℕ). lo ∷ t) (range_more n (lo + 1) ∙ ap (λ (a : ℕ). range_with_len (lo + 1) n ++ a ∷ []) f))
-
--- the sites of one more address
-pub filter_more : (f : ℕ → Option Site) (lo n : ℕ) (o : Option Site) → f (lo + n) ≡ o → filter_map f (range_with_len lo (n + 1)) ≡ filter_map f (range_with_len lo n) ++ filter_map f ((lo + n) ∷ [])
-filter_more f lo n o e = ap (filter_map f) (range_more n lo) ∙ filter_map-append f (range_with_len lo n) ((lo + n) ∷ [])
-
-pub none_more : (f : ℕ → Option Site) (lo n : ℕ) (new old : List Site) → f (lo + n) ≡ None → new ≡ old ++ filter_map f (range_with_len lo n) → new ≡ old ++ filter_map f (range_with_len lo (n + 1))
-none_more f lo n new old e h =
-    let one : filter_map f ((lo + n) ∷ []) ≡ [] = rw e refl in
-    h ∙ ap (λ (t : List Site). old ++ t) (sym (filter_more f lo n None e ∙ ap (λ (t : List Site). filter_map f (range_with_len lo n) ++ t) one ∙ append-nil (filter_map f (range_with_len lo n))))
-
-pub some_more : (f : ℕ → Option Site) (lo n : ℕ) (new now old : List Site) (s : Site) → f (lo + n) ≡ Some s → now ≡ old ++ filter_map f (range_with_len lo n) → new ≡ now ++ s ∷ [] → new ≡ old ++ filter_map f (range_with_len lo (n + 1))
-some_more f lo n new now old s e h p =
-    let one : filter_map f ((lo + n) ∷ []) ≡ s ∷ [] = rw e refl in
-    p ∙ ap (λ (t : List Site). t ++ s ∷ []) h ∙ append_assoc old (filter_map f (range_with_len lo n)) (s ∷ [])
-    ∙ ap (λ (t : List Site). old ++ t) (sym (filter_more f lo n (Some s) e ∙ ap (λ (t : List Site). filter_map f (range_with_len lo n) ++ t) one))
 
 -- each of the runs ends below the highest page
 pub apart_ends : (from : ℕ) (rs : List Run) → AreApart from rs → (k : ℕ) (r : Run) → k < length rs → r ≡ get_or rs k r → r.lo + length r.bytes ≤ 0xFFFFF000

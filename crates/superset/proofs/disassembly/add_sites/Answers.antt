@@ -1,11 +1,11 @@
 use Rattle.std.proofs.Common.{◌≡◌, ℕ, ◌∷◌, [], ◌++◌, List, length, sym, ap, ◌∙◌, arith}
 use Rattle.std.specs.List.{filter_map, range_with_len}
 use Rattle.elf32_read.specs.Runs.{code_of}
-use Rattle.mv_rewrite.specs.Sites.{site_at}
-use Rattle.mv_rewrite.specs.declared.site.Site.{Site}
-use Rattle.mv_rewrite.proofs.RunSites.{run_sites_are, none_more, some_more}
-use Rattle.mv_rewrite.proofs.sites.add_sites.Goals as goal
-use Rattle.mv_rewrite.proofs.sites.add_sites.Goals.{in-Some+in_ok-push, in_default}
+use Rattle.superset.specs.Sites.{site_at}
+use Rattle.superset.specs.declared.site.Site.{Site}
+use Rattle.superset.proofs.RunSites.{run_sites_are, none_more, some_more}
+use Rattle.superset.proofs.disassembly.add_sites.Goals as goal
+use Rattle.superset.proofs.disassembly.add_sites.Goals.{in-Some+in_ok-push, in_default}
 
 pub loop-offset-preserved : goal.loop-offset-preserved
 loop-offset-preserved c =

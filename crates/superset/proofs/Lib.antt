@@ -1,0 +1,2 @@
+-- why the code gives what the definitions say
+pub mod RunSites
