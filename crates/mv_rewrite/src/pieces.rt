@@ -1,13 +1,12 @@
 //! Pieces: the code that stands for a site.
 
-ghost use Rattle.std.specs.Prelude.{◌≡◌, ◌≤◌, ◌↔◌, IsTrue, [], length, take};
+ghost use Rattle.std.specs.Prelude.{◌≡◌, ◌≤◌, [], length};
 ghost use Rattle.x86_insn.specs.Flow.{flow_of};
 ghost use Rattle.x86_insn.specs.declared.insn.Flow.TheVariants.{Jump};
 ghost use Rattle.mv_rewrite.specs.Pieces.{jump_bytes, successor as successor_of, target as target_of};
 
-use crate::site::Site;
 use byteorder::{ByteOrder, LittleEndian};
-use std::marker::Model;
+use superset::{Piece, Site};
 use x86_insn::Insn;
 
 /// The piece of an instruction that is copied: its own bytes, at most 15.

@@ -11,13 +11,15 @@ use Rattle.elf32_read.specs.Load.{load}
 use Rattle.elf32_read.specs.Runs.{runs_of, code_of}
 use Rattle.elf32_write.specs.Format.{up, private_len}
 use Rattle.elf32_write.specs.Frame.{Frame, frame_map, frame_entry, frame_table}
-use Rattle.mv_rewrite.specs.declared.site.Site.{Site}
-use Rattle.mv_rewrite.specs.Sites.{site_at, code_in, addresses, sites, sites_in}
+use Rattle.superset.specs.declared.site.Site.{Site}
+use Rattle.superset.specs.Sites.{addresses}
+use Rattle.mv_rewrite.specs.Sites.{placed_at, code_in, sites}
 use Rattle.mv_rewrite.specs.Pieces.{piece, with_join, slot_len, slot}
-use Rattle.mv_rewrite.specs.Layout.{entry_in, moved, table, run_places, code_len, table_len, size, pairs_at, plan_at}
+use Rattle.mv_rewrite.specs.Layout.{places, entry_in, moved, table, run_places, code_len, table_len, size, pairs_at, plan_at}
 use Rattle.mv_rewrite.specs.Relocated.{StandAt, PieceAt}
 use Rattle.mv_rewrite.proofs.EntryWords.{entry_where, flat_in}
-use Rattle.mv_rewrite.proofs.SlotPlaces.{IsSiteAt, is_site_at, length-with_join, HasSlot, has_slot, no_entry, length-slots, entry_in-le, address_among}
+use Rattle.mv_rewrite.proofs.PlacedSites.{IsSiteAt, is_site_at, sites-listed}
+use Rattle.mv_rewrite.proofs.SlotPlaces.{length-with_join, HasSlot, has_slot, no_entry, length-file_slots, entry_in-le, address_among}
 
 -- the plan's code and table are loaded where the frame says
 pub record IsPlaced (b : List ℕ) (base : ℕ) (x : List ℕ) (f : Frame) : Type 0 where
@@ -38,12 +40,9 @@ up-le : (n : ℕ) → n ≤ up n
 up-le n = omega arith
 
 module _ (b : List ℕ) (base : ℕ) (x : List ℕ) (f : Frame) (h : IsPlaced b base x f) where
-  all : List ℕ
-  all = addresses (runs_of b)
-
   code-len : length (plan_at b base).code ≡ 32 * length (sites b)
-  unfolding plan_at sites sites_in all
-  code-len = length-slots (moved (pairs_at b base)) (code_in b) all base
+  unfolding plan_at
+  code-len = length-file_slots (moved (pairs_at b base)) b base
 
   sites-le : 32 * length (sites b) ≤ up (code_len b)
   sites-le = omega (arith, up-le (code_len b))
@@ -55,18 +54,18 @@ module _ (b : List ℕ) (base : ℕ) (x : List ℕ) (f : Frame) (h : IsPlaced b 
   entry-bound : (a : ℕ) → entry_in (pairs_at b base) a < 2 ^ 32
   entry-bound a = omega (arith, entry_in-le (sites b) base a, sites-le, size-code, h.low)
 
-  no_code : (a : ℕ) → code_of (runs_of b) a ≡ None → site_at (code_in b) a ≡ None
-  no_code a e = by_site (site_at (code_in b) a) refl
+  no_code : (a : ℕ) → code_of (runs_of b) a ≡ None → placed_at (code_in b) a ≡ None
+  no_code a e = by_site (placed_at (code_in b) a) refl
     where
-      by_site : (o : Option Site) → site_at (code_in b) a ≡ o → o ≡ None
+      by_site : (o : Option Site) → placed_at (code_in b) a ≡ o → o ≡ None
       by_site None eo = refl
       by_site (Some s) eo =
           let q = is_site_at (code_in b) a s eo in
           absurd (none-some q.starts.0 (sym (h.code a ∙ e) ∙ q.starts.1))
 
-  entry-none : (a : ℕ) → site_at (code_in b) a ≡ None → entry_in (pairs_at b base) a ≡ 0
-  unfolding sites sites_in
-  entry-none a e = no_entry (moved (pairs_at b base)) (code_in b) (addresses (runs_of b)) base a e
+  entry-none : (a : ℕ) → placed_at (code_in b) a ≡ None → entry_in (pairs_at b base) a ≡ 0
+  entry-none a e =
+      ap (λ (ss : List Site). entry_in (places base ss) a) (sites-listed b) ∙ no_entry (moved (pairs_at b base)) (code_in b) (addresses (runs_of b)) base a e
 
   entry_by_code : (a : ℕ) (o : Option ℕ) → code_of (runs_of b) a ≡ o → entry_where o (entry_in (pairs_at b base) a) ≡ entry_in (pairs_at b base) a
   entry_by_code a None e = sym (entry-none a (no_code a e))
@@ -88,19 +87,19 @@ module _ (b : List ℕ) (base : ℕ) (x : List ℕ) (f : Frame) (h : IsPlaced b 
   pub map_is : (a : ℕ) → frame_map f a ≡ moved (pairs_at b base) a
   map_is a = ap (λ n. entry_or n a) (entries a)
 
-  pub others : (a : ℕ) → site_at (code_in b) a ≡ None → frame_map f a ≡ a
+  pub others : (a : ℕ) → placed_at (code_in b) a ≡ None → frame_map f a ≡ a
   others a e = map_is a ∙ ap (λ n. entry_or n a) (entry-none a e)
 
   pub mapped : (a : ℕ) → a < 2 ^ 32 → frame_map f a < 2 ^ 32
   mapped a lt =
       subst (λ n. n < 2 ^ 32) (sym (map_is a)) (cond_both (eqb (entry_in (pairs_at b base) a) 0) a (entry_in (pairs_at b base) a) (λ n. n < 2 ^ 32) (λ _. lt) (λ _. entry-bound a))
 
-  site_slot : (a : ℕ) (s : Site) → site_at (code_in b) a ≡ Some s → HasSlot (moved (pairs_at b base)) (code_in b) base (sites b) a s
-  unfolding sites sites_in
+  site_slot : (a : ℕ) (s : Site) → placed_at (code_in b) a ≡ Some s → HasSlot (moved (pairs_at b base)) (code_in b) base (sites b) a s
   site_slot a s e =
       let q = is_site_at (code_in b) a s e in
       let among = address_among (runs_of b) a q.starts.0 (sym (h.code a) ∙ q.starts.1) in
-      has_slot (moved (pairs_at b base)) (code_in b) (addresses (runs_of b)) base a s among.place among.below among.at e
+      subst (λ (ss : List Site). HasSlot (moved (pairs_at b base)) (code_in b) base ss a s) (sym (sites-listed b))
+      (has_slot (moved (pairs_at b base)) (code_in b) (addresses (runs_of b)) base a s among.place among.below among.at e)
 
   -- the bytes of the piece and the join stand at the slot
   at_slot : (a : ℕ) (s : Site) (q : IsSiteAt (code_in b) a s) (p : HasSlot (moved (pairs_at b base)) (code_in b) base (sites b) a s)
@@ -134,7 +133,7 @@ module _ (b : List ℕ) (base : ℕ) (x : List ℕ) (f : Frame) (h : IsPlaced b 
       let ne : base + 32 * p.k ≡ 0 → ⊥ = λ e. omega (arith, e, h.positive) in
       ap (λ n. entry_or n a) p.entry ∙ ap (λ t. cond t a (base + 32 * p.k)) (ne_eqb (base + 32 * p.k) 0 ne)
 
-  pub pieces : (a : ℕ) (s : Site) → site_at (code_in b) a ≡ Some s → PieceAt b x f s
+  pub pieces : (a : ℕ) (s : Site) → placed_at (code_in b) a ≡ Some s → PieceAt b x f s
   pieces a s e =
       let q = is_site_at (code_in b) a s e in
       let p = site_slot a s e in
