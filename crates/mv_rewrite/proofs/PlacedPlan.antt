@@ -13,13 +13,15 @@ use Rattle.elf32_write.specs.Format.{up, private_len}
 use Rattle.elf32_write.specs.Frame.{Frame, frame_map, frame_entry, frame_table}
 use Rattle.superset.specs.declared.site.Site.{Site}
 use Rattle.superset.specs.Sites.{addresses}
+use Rattle.superset.specs.RunAddresses.{address_among}
 use Rattle.mv_rewrite.specs.Sites.{placed_at, code_in, sites}
 use Rattle.mv_rewrite.specs.Pieces.{piece, with_join, slot_len, slot}
 use Rattle.mv_rewrite.specs.Layout.{places, entry_in, moved, table, run_places, code_len, table_len, size, pairs_at, plan_at}
 use Rattle.mv_rewrite.specs.Relocated.{StandAt, PieceAt}
 use Rattle.mv_rewrite.proofs.EntryWords.{entry_where, flat_in}
 use Rattle.mv_rewrite.proofs.PlacedSites.{IsSiteAt, is_site_at, sites-listed}
-use Rattle.mv_rewrite.proofs.SlotPlaces.{length-with_join, HasSlot, has_slot, no_entry, length-file_slots, entry_in-le, address_among}
+use Rattle.mv_rewrite.proofs.Written.{up-le}
+use Rattle.mv_rewrite.proofs.SlotPlaces.{length-with_join, HasSlot, has_slot, no_entry, length-file_slots, entry_in-le}
 
 -- the plan's code and table are loaded where the frame says
 pub record IsPlaced (b : List ℕ) (base : ℕ) (x : List ℕ) (f : Frame) : Type 0 where
@@ -35,9 +37,6 @@ pub record IsPlaced (b : List ℕ) (base : ℕ) (x : List ℕ) (f : Frame) : Typ
   pub low : base + size b ≤ 0xB0000000
   -- the input's executable bytes are those of its runs
   pub code : (a : ℕ) → code_in b a ≡ code_of (runs_of b) a
-
-up-le : (n : ℕ) → n ≤ up n
-up-le n = omega arith
 
 module _ (b : List ℕ) (base : ℕ) (x : List ℕ) (f : Frame) (h : IsPlaced b base x f) where
   code-len : length (plan_at b base).code ≡ 32 * length (sites b)

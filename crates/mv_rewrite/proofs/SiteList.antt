@@ -1,10 +1,11 @@
 -- The placed sites of runs: they ascend, lie in the runs and are at most 15 bytes long.
-use Rattle.std.proofs.Common.{◌≡◌, ◌≢◌, ℕ, zero, suc, ◌+◌, ◌≤◌, ◌⊎◌, List, [], ◌∷◌, ◌++◌, length, Option, Some, None, refl, sym, ap, ◌∙◌, subst, inl, inr, arith}
-use Rattle.std.specs.List.{filter_map, range_with_len}
+use Rattle.std.proofs.Common.{◌≡◌, ◌≢◌, ℕ, zero, suc, ◌+◌, ◌≤◌, ◌⊎◌, List, [], ◌∷◌, length, Option, Some, None, refl, sym, ap, ◌∙◌, subst, inl, inr, arith}
+use Rattle.std.specs.List.{filter_map}
 use Rattle.elf32_read.specs.declared.run.Run.{Run}
 use Rattle.elf32_read.specs.Runs.{code_of, AreApart}
 use Rattle.superset.specs.declared.site.Site.{Site}
 use Rattle.superset.specs.Sites.{addresses}
+use Rattle.superset.specs.RunAddresses.{Increase, increase_addresses}
 use Rattle.mv_rewrite.specs.Sites.{placed_at, placed_in}
 use Rattle.mv_rewrite.specs.Layout.{places, entry_in}
 use Rattle.mv_rewrite.specs.Lookup.{Ascend}
@@ -17,28 +18,6 @@ use Rattle.mv_rewrite.proofs.SlotSteps.{places_none}
 site_cases : (o : Option Site) → (o ≡ None) ⊎ ((s : Site) × (o ≡ Some s))
 site_cases None = inl refl
 site_cases (Some s) = inr (s, refl)
-
--- numbers that strictly ascend from one on
-abbrev Increase : ℕ → List ℕ → Type 0
-Increase from [] = Unit {0}
-Increase from (a ∷ xs) = (from ≤ a) × Increase (a + 1) xs
-
-increase_weaker : (low from : ℕ) (xs : List ℕ) → low ≤ from → Increase from xs → Increase low xs
-increase_weaker low from [] l h = tt
-increase_weaker low from (a ∷ xs) l h = (omega (arith, h.0), h.1)
-
-increase_range : (n lo : ℕ) (xs : List ℕ) → Increase (lo + n) xs → Increase lo (range_with_len lo n ++ xs)
-increase_range zero lo xs h = increase_weaker lo (lo + 0) xs (omega arith) h
-increase_range (suc n) lo xs h =
-    (omega arith, increase_range n (lo + 1) xs (subst (λ (x : ℕ). Increase x xs) (omega arith) h))
-
-increase_addresses : (from : ℕ) (rs : List Run) → AreApart from rs → Increase from (addresses rs)
-unfolding addresses
-increase_addresses from [] h = tt
-increase_addresses from (r ∷ rs) h =
-    let rest = increase_addresses (r.lo + length r.bytes + 1) rs h.3 in
-    increase_weaker from r.lo (addresses (r ∷ rs)) h.0
-    (increase_range (length r.bytes) r.lo (addresses rs) (increase_weaker (r.lo + length r.bytes) (r.lo + length r.bytes + 1) (addresses rs) (omega arith) rest))
 
 places-cons : (at : ℕ) (s : Site) (ss : List Site) → places at (s ∷ ss) ≡ (s.at, at) ∷ places (at + 32) ss
 unfolding places

@@ -3,22 +3,17 @@ use Rattle.std.proofs.Common.{◌≡◌, ℕ, zero, suc, ◌+◌, ◌-◌, ◌*�
 use Rattle.std.specs.Prelude.{slice_index, replicate}
 use Rattle.std.specs.List.{filter_map, cons_option}
 use Rattle.std.proofs.lemmas.List.{length-append, length-replicate, get_or_append_left, get_or-append-add}
-use Rattle.std.proofs.lemmas.List.FromFn.{length-range_with_len, get_or-range_with_len}
-use Rattle.std.proofs.lemmas.Bool.{eq-eqb, ne_eqb, cases_eq, cases_Bool, cond_both}
+use Rattle.std.proofs.lemmas.Bool.{eq-eqb, ne_eqb, cases_eq, cond_both}
 use Rattle.std.proofs.lemmas.Option.{none-some, same_Some}
-use Rattle.mv_base.specs.Memory.{within}
 use Rattle.x86_insn.specs.declared.insn.Flow.{Flow}
 use Rattle.x86_insn.specs.declared.insn.Flow.TheVariants as flow
 use Rattle.x86_insn.specs.Flow.{flow_of, falls}
-use Rattle.elf32_read.specs.declared.run.Run.{Run}
-use Rattle.elf32_read.specs.Runs.{code_of, runs_of}
-use Rattle.elf32_write.specs.Within.{within_parts}
+use Rattle.elf32_read.specs.Runs.{runs_of}
 use Rattle.superset.specs.declared.site.Site.{Site}
-use Rattle.superset.specs.Sites.{addresses, run_addresses}
+use Rattle.superset.specs.Sites.{addresses}
 use Rattle.mv_rewrite.specs.Sites.{placed_at, code_in, sites}
 use Rattle.mv_rewrite.specs.Pieces.{jump_bytes, target, successor, piece_of, piece, join, with_join, slot_len, slot, slots}
 use Rattle.mv_rewrite.specs.Layout.{entry_in, places}
-use Rattle.mv_rewrite.proofs.EntryWords.{code_beyond}
 use Rattle.mv_rewrite.proofs.NearJump.{jump_len}
 use Rattle.mv_rewrite.proofs.PlacedSites.{is_site_at, sites-listed}
 use Rattle.mv_rewrite.proofs.SlotSteps.{exec_short}
@@ -153,34 +148,3 @@ unfolding places entry_in
 entry_in-le [] base a = omega arith
 entry_in-le (s ∷ ss) base a =
     cond_both (eqb s.at a) base (entry_in (places (base + slot_len) ss) a) (λ n. n ≤ base + 32 * length (s ∷ ss)) (λ _. omega arith) (λ _. omega (arith, entry_in-le ss (base + slot_len) a))
-
--- ---- addresses of runs
-
--- an address with a byte is among the addresses of the runs
-pub record IsAmong (all : List ℕ) (a : ℕ) : Type 0 where
-  pub place : ℕ
-  pub below : place < length all
-  pub at : get_or all place 0 ≡ a
-
-pub address_among : (rs : List Run) (a b : ℕ) → code_of rs a ≡ Some b → IsAmong (addresses rs) a
-unfolding addresses
-address_among [] a b h = absurd (none-some b h)
-address_among (r ∷ rs) a b h =
-    elim (cases_Bool (within r.lo (length r.bytes) a)) [
-      | inl w ↦
-          let p = within_parts r.lo (length r.bytes) a w in
-          let lt : a - r.lo < length r.bytes = omega (arith, p.0, p.1) in
-          let len = length-range_with_len r.lo (length r.bytes) in
-          record {
-            place = a - r.lo;
-            below = omega (arith, len, lt, length-append (run_addresses r) (addresses rs));
-            at = get_or_append_left (run_addresses r) (addresses rs) 0 (a - r.lo) (omega (arith, len, lt)) ∙ (get_or-range_with_len r.lo (length r.bytes) (a - r.lo) 0 lt ∙ omega (arith, p.0));
-          }
-      | inr w ↦
-          let q = address_among rs a b (sym (code_beyond r rs a w) ∙ h) in
-          record {
-            place = length (run_addresses r) + q.place;
-            below = omega (arith, q.below, length-append (run_addresses r) (addresses rs));
-            at = get_or-append-add (run_addresses r) (addresses rs) q.place 0 ∙ q.at;
-          }
-    ]

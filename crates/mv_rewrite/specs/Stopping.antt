@@ -41,15 +41,16 @@ QuietIn b x f s answers n = is_some (run_state b s answers n) ≡ true → IsCle
 
 -- ---- stops
 
--- at a stop at a site that has a piece: the same registers, flags, calls and answers, the same memory outside the added range, and each
--- counter as before, but for that of the site, which has one more
+-- at a stop at a site that has a piece: the same registers, flags, calls and answers, the same memory outside the added
+-- range, and each counter as before, but for that of the site, which has one more
 pub record StopsSame (f : Frame) (at : ℕ) (o t : State) (c : ℕ → ℕ) : Type 0 where
   pub core : t.core ≡ o.core
   pub same : ShowsSame f o t
   pub counts : (k : ℕ) → k < f.counters → number (bytes_at t.memory (counter_place f k) 8) ≡ (c (counted_at f k) + (if counted_at f k == at then 1 else 0)) % 2 ^ 64
 
 -- how the output's stop is that of the input at an address, after k steps from the agreeing state: at a site that has a
--- piece the same stop; elsewhere at once, as a fetch fault at the same address, where the input's is that too or the bytes are no instruction
+-- piece the same stop; elsewhere at once, as a fetch fault at the same address, where the input's is that too or the
+-- bytes are no instruction
 abbrev pub StopsAs : Option Site → Frame → ℕ → ℕ → Stop → State → Stop → State → (ℕ → ℕ) → Type 0
 StopsAs (Some site) f k at why o why' t c = (why' ≡ why) × StopsSame f at o t c
 StopsAs None f k at why o why' t c = (k ≡ 0) × (why' ≡ Trap FetchFault at) × ((why ≡ Trap FetchFault at) ⊎ (why ≡ Outside))

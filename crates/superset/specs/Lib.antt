@@ -3,3 +3,4 @@ pub mod Sites
 pub mod Flows
 -- what holds of them, for the proofs of this crate and of the crates above
 pub mod RunBytes
+pub mod RunAddresses

@@ -1,7 +1,7 @@
 -- Sites: the addresses at which an instruction lies wholly in executable cells. The method is after Multiverse,
 -- which disassembles from every byte.
-use Rattle.std.specs.Prelude.{ℕ, List, length, Option, Some, None}
-use Rattle.std.specs.List.{filter_map, flat_map, range_with_len}
+use Rattle.std.specs.Prelude.{◌≡◌, ℕ, ◌+◌, ◌≤◌, List, [], ◌∷◌, length, Option, Some, None, Contains}
+use Rattle.std.specs.List.{AllByRecursion, filter_map, flat_map, range_with_len}
 use Rattle.x86_insn.specs.Step.{Fetched, Absent, Found, Unknown, fetch_in}
 use Rattle.elf32_read.specs.declared.run.Run.{Run}
 use Rattle.superset.specs.declared.site.Site.{Site}
@@ -25,3 +25,14 @@ addresses rs = flat_map run_addresses rs
 -- the sites among the addresses of runs, in their order
 unfoldable pub sites_in : (ℕ → Option ℕ) → List Run → List Site
 sites_in code rs = filter_map (site_at code) (addresses rs)
+
+-- sites whose addresses strictly ascend, from an address on
+abbrev pub Ascend : ℕ → List Site → Type 0
+Ascend from [] = Unit {0}
+Ascend from (s ∷ ss) = (from ≤ s.at) × Ascend (s.at + 1) ss
+
+-- all sites of executable bytes and nothing else, ascending
+pub record AreSites (code : ℕ → Option ℕ) (found : List Site) : Type 0 where
+  pub all : (a : ℕ) (s : Site) → site_at code a ≡ Some s → Contains found s
+  pub only : AllByRecursion (λ s. site_at code s.at ≡ Some s) found
+  pub ascend : Ascend 0 found

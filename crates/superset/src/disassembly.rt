@@ -2,7 +2,7 @@
 
 ghost use Rattle.std.specs.Prelude.{◌≡◌, ◌+◌, ◌<◌, ◌≤◌, [], ◌∷◌, ◌++◌, length, IfOk, OnOk};
 ghost use Rattle.elf32_read.specs.Runs.{code_of, AreApart};
-ghost use Rattle.superset.specs.Sites.{site_at, sites_in};
+ghost use Rattle.superset.specs.Sites.{site_at, sites_in, AreSites};
 
 use crate::site::Site;
 use elf32_read::Run;
@@ -22,7 +22,8 @@ const LONGEST: usize = 15;
 /// `NoMemory`.
 pub fn sites(alloc: Global, runs: &[Run]) -> Result<Vec<Site>, NoMemory>
     requires { AreApart 0 runs.now }
-    ensures { IfOk result (λ found. found.items ≡ sites_in (code_of runs.now) runs.now) }
+    ensures listed { IfOk result (λ found. found.items ≡ sites_in (code_of runs.now) runs.now) }
+    ensures exact { IfOk result (λ found. AreSites (code_of runs.now) found.items) }
 {
     let mut found = Vec::new(alloc);
     for run in runs {

@@ -6,4 +6,4 @@ use Rattle.mv_rewrite.proofs.placed.placed_sites.Goals as goal
 
 pub returns : goal.returns
 unfolding placed_in
-returns c = filter_same _ is_placed _ (λ x b f' k. search rules) _ _ c.retain.ensures.filtered ∙ ap (filter is_placed) c.in_ok-found.ensures
+returns c = filter_same _ is_placed _ (λ x b f' k. search rules) _ _ c.retain.ensures.filtered ∙ ap (filter is_placed) c.in_ok-found.ensures.listed
