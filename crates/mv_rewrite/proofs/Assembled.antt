@@ -27,8 +27,8 @@ use Rattle.mv_rewrite.specs.declared.layout.LayFault.{LayFault}
 use Rattle.mv_rewrite.specs.declared.layout.LayFault.TheVariants as lay_fault
 use Rattle.mv_rewrite.specs.declared.rewriting.Rewritten.{Rewritten}
 use Rattle.mv_rewrite.specs.declared.rewriting.RewriteFault.{RewriteFault}
-use Rattle.mv_rewrite.specs.declared.site.Site.{Site}
-use Rattle.mv_rewrite.specs.Sites.{sites, sites_in}
+use Rattle.superset.specs.declared.site.Site.{Site}
+use Rattle.mv_rewrite.specs.Sites.{sites, placed_in}
 use Rattle.mv_rewrite.specs.Layout.{base_of, size, code_len, plan_at}
 use Rattle.mv_rewrite.specs.Laying.{IsLaid, LaysOut}
 use Rattle.mv_rewrite.specs.Rewriting.{laid_fault, IsRewritten}
@@ -124,6 +124,6 @@ no_plan b lay_fault.NoMemory whole is = tt
 pub laid_passes : (b : List ℕ) (fault : LayFault) (e : RewriteFault) → refusal b ≡ None → LaysOut b (Err fault) → e ≡ laid_fault fault → IsRewritten b (Err e)
 laid_passes b fault e whole is passed = subst (λ (x : RewriteFault). IsRewritten b (Err x)) (sym passed) (no_plan b fault whole is)
 
--- the sites of the runs are those of the file
-pub sites_are : (b : List ℕ) (rs : List Run) (ss : List Site) → load_refusal b ≡ None → rs ≡ runs_of b → ss ≡ sites_in (code_of rs) rs → ss ≡ sites b
-sites_are b rs ss whole runs found = found ∙ (ap (λ (rs : List Run). sites_in (code_of rs) rs) runs ∙ sym (sites_of_runs b whole))
+-- the placed sites of the runs are those of the file
+pub sites_are : (b : List ℕ) (rs : List Run) (ss : List Site) → load_refusal b ≡ None → rs ≡ runs_of b → ss ≡ placed_in (code_of rs) rs → ss ≡ sites b
+sites_are b rs ss whole runs found = found ∙ (ap (λ (rs : List Run). placed_in (code_of rs) rs) runs ∙ sym (sites_of_runs b whole))

@@ -1,7 +1,8 @@
 -- Both runs stand at a site: what stands there in the output, and what its copy comes to.
-use Rattle.std.proofs.Common.{◌≡◌, ℕ, ◌+◌, List, [], ◌++◌, length, Option, if◌then◌else◌, sym, ap, ◌∙◌, subst, arith}
+use Rattle.std.proofs.Common.{◌≡◌, ℕ, ◌+◌, true, List, [], ◌++◌, length, Option, Some, None, cond, if◌then◌else◌, sym, ap, ◌∙◌, subst, arith}
 use mathlib.Core.Path.{fun_ext}
 use Rattle.std.specs.List.{AllByRecursion}
+use Rattle.std.specs.Option.{option_and_then}
 use Rattle.mv_base.specs.Memory.{exec_byte, exec_byte_of, address_after, exec_bytes}
 use Rattle.x86_insn.specs.declared.insn.Insn.{Insn}
 use Rattle.x86_insn.specs.declared.insn.Flow.{Flow}
@@ -10,8 +11,10 @@ use Rattle.x86_insn.specs.State.{State, Outcome}
 use Rattle.x86_insn.specs.Step.{Found, fetch, fetch_in, executed, step}
 use Rattle.elf32_read.specs.Load.{load}
 use Rattle.elf32_write.specs.Frame.{Frame, frame_map}
-use Rattle.mv_rewrite.specs.declared.site.Site.{Site}
-use Rattle.mv_rewrite.specs.Sites.{site_found, code_in}
+use Rattle.superset.specs.declared.site.Site.{Site}
+use Rattle.superset.specs.Sites.{site_found}
+use Rattle.superset.specs.Flows.{has_piece}
+use Rattle.mv_rewrite.specs.Sites.{if_placed, placed_at, code_in}
 use Rattle.mv_rewrite.specs.Pieces.{successor, jump_bytes, piece_of}
 use Rattle.mv_rewrite.specs.Relocated.{StandAt, IsRelocated}
 use Rattle.mv_rewrite.specs.Simulation.{effects_by_flow, IsClearEffect, IsClearOutcome}
@@ -37,12 +40,19 @@ slot_bytes b f s fl = joined_by fl (piece_of fl (frame_map f) (code_in b) (frame
 abbrev pub copy_bytes : List ℕ → State → ℕ → List ℕ
 copy_bytes b o n = exec_bytes (code_in b) o.eip n
 
--- the input stands at an instruction, and the output, in a like state, where that is mapped
+-- the input stands at an instruction whose flow has a piece, and the output, in a like state, where that is mapped
 pub record AtSite (b x : List ℕ) (f : Frame) (o t : State) (i : Insn) (n : ℕ) : Type 0 where
   pub sound : IsSound o
   pub alike : StatesAlike (Alike b x f) o t
   pub place : t.eip ≡ frame_map f o.eip
   pub found : fetch o.memory o.eip ≡ Found i n
+  pub placed : has_piece (flow_of i) ≡ true
+
+-- an instruction whose flow has a piece is a site that has one
+pub placed_found : (code : ℕ → Option ℕ) (a : ℕ) (i : Insn) (n : ℕ) → fetch_in code a ≡ Found i n → has_piece (flow_of i) ≡ true → placed_at code a ≡ Some (record { at = a; len = n; insn = i })
+placed_found code a i n e h =
+    let site : Site = record { at = a; len = n; insn = i } in
+    ap (λ r. option_and_then if_placed (site_found a r)) e ∙ ap (λ t. cond t (Some site) None) h
 
 -- outcomes at a site that come to the same, each with the address after the instruction in its own run
 abbrev pub MeetsAt : List ℕ → List ℕ → Frame → State → ℕ → Outcome → Outcome → Type 0
@@ -66,7 +76,7 @@ module _ (b x : List ℕ) (f : Frame) (rel : IsRelocated b x f) where
   -- the site's piece and join stand where it is mapped
   pub slot_stands : (o t : State) (i : Insn) (n : ℕ) (fl : Flow) → AtSite b x f o t i n → flow_of i ≡ fl → StandAt x f (frame_map f o.eip) (slot_bytes b f (site_of o i n) fl)
   slot_stands o t i n fl s k =
-      let piece = rel.pieces o.eip (site_of o i n) (ap (site_found o.eip) (site_code o t i n s)) in
+      let piece = rel.pieces o.eip (site_of o i n) (placed_found (code_in b) o.eip i n (site_code o t i n s) s.placed) in
       subst (λ g. StandAt x f (frame_map f o.eip) (slot_bytes b f (site_of o i n) g)) k piece
 
   -- the copy is executed where it stands

@@ -2,23 +2,15 @@
 use Rattle.std.proofs.Common.{◌≡◌, ℕ, ◌+◌, ◌-◌, ◌<◌, ◌≤◌, Bool, true, false, ◌&&◌, List, [], ◌∷◌, length, Option, Some, None, is_some, if◌then◌else◌, nat_lt, nat_le, ◌==◌, refl, sym, ap, ◌∙◌, arith, filter_map, slice_index}
 use Rattle.std.specs.List.{cons_option}
 use Rattle.std.proofs.lemmas.Bool.{ltb-true, ltb-false, and_parts, cond-true, both_ways}
-use Rattle.std.proofs.lemmas.Option.{none-some}
 use Rattle.mv_base.specs.Memory.{Cell, within, first_of}
 use Rattle.elf32_read.specs.declared.fault.ImageFault.{ImageFault}
 use Rattle.elf32_read.specs.declared.fault.ImageFault.TheVariants.{Interpreter, Dynamic, FileRange, MemorySmaller}
 use Rattle.elf32_read.specs.declared.image.Phdr.{Phdr}
 use Rattle.elf32_read.specs.declared.image.Segment.{Segment}
 use Rattle.elf32_read.specs.Fields.{headers, is_load, maps, has_write, has_exec, segment_of, segments}
-use Rattle.elf32_read.specs.Faults.{or_else, head_fault, segment_fault, header_fault, free_after, headers_fault, load_refusal}
+use Rattle.elf32_read.specs.Faults.{head_fault, segment_fault, header_fault, free_after, headers_fault, load_refusal}
 use Rattle.elf32_read.specs.Load.{segment_cell, load_in, load}
-
-neither : (p q : Option ImageFault) → or_else p q ≡ None → (p ≡ None) × (q ≡ None)
-neither None q h = (refl, h)
-neither (Some e) q h = absurd (none-some e (sym h))
-
-passed : (v : Bool) (e : ImageFault) (rest : Option ImageFault) → (if v then Some e else rest) ≡ None → (v ≡ false) × (rest ≡ None)
-passed true e rest h = absurd (none-some e (sym h))
-passed false e rest h = (refl, h)
+use Rattle.mv_rewrite.proofs.Fine.{passed, neither}
 
 segment_end : (free i : ℕ) (h : Phdr) → segment_fault free i h ≡ None → h.vaddr + h.memsz ≤ 0xFFFFF000
 unfolding segment_fault

@@ -65,11 +65,6 @@ pub decoded_most : (s : List ℕ) (i : Insn) (n : ℕ) → decoded s ≡ Some (i
 unfolding decoded
 decoded_most s i n h = let q = is_first 15 1 s i n h in omega (arith, q.high)
 
--- and it is a spelling
-pub decoded_spelled : (s : List ℕ) (i : Insn) (n : ℕ) → decoded s ≡ Some (i, n) → spelled (take n s) ≡ Some i
-unfolding decoded
-decoded_spelled s i n h = (is_first 15 1 s i n h).spells
-
 -- a spelling is no longer than the bytes
 pub decoded_within : (s : List ℕ) (i : Insn) (n : ℕ) → 0 < length s → decoded s ≡ Some (i, n) → n ≤ length s
 unfolding decoded

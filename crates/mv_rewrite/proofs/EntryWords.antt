@@ -13,7 +13,7 @@ use Rattle.elf32_read.specs.declared.run.Run.{Run}
 use Rattle.elf32_read.specs.Runs.{code_of}
 use Rattle.elf32_write.specs.Words.{word_at-words}
 use Rattle.elf32_write.specs.Within.{within_parts}
-use Rattle.mv_rewrite.specs.Sites.{addresses, run_addresses}
+use Rattle.superset.specs.Sites.{addresses, run_addresses}
 use Rattle.mv_rewrite.specs.Layout.{run_places}
 
 abbrev pub entry_where : {X : Type 0} → Option X → ℕ → ℕ

@@ -1,22 +1,35 @@
 -- The law on runs says something: a file, a start and an answer that meet its premises for three steps. The file is
 -- that of the worked example: `mov eax,1`, `mov ebx,7`, `int 0x80` at 0x08048054.
-use Rattle.std.proofs.Common.{◌≡◌, ℕ, zero, suc, ◌^◌, ◌<◌, true, false, List, [], ◌∷◌, Option, Some, None, is_some, slice_index, refl, arith, subst}
+use Rattle.std.proofs.Common.{◌≡◌, ℕ, zero, suc, ◌^◌, ◌<◌, ◌≤◌, true, false, List, [], ◌∷◌, length, take, Option, Some, None, is_some, slice_index, refl, sym, ap, ◌∙◌, arith, subst}
 use Rattle.std.specs.List.{AllByRecursion}
-use Rattle.mv_base.specs.Effects.{Answer, Ret, IsAnswer}
-use Rattle.x86_insn.specs.declared.flags.Flags.{Flags}
-use Rattle.x86_insn.specs.State.{State}
-use Rattle.elf32_read.specs.Faults.{refusal, load_refusal, limit_fault, head_fault, headers_fault, header_fault, segment_fault}
-use Rattle.mv_base.specs.Memory.{exec_bytes, first_failing, bytes_at}
 use Rattle.mv_base.specs.Bytes.{half_at, word_at, number}
-use Rattle.mv_base.specs.Effects.{applied}
-use Rattle.x86_insn.specs.Step.{step, rounds, asks, fetch_in}
+use Rattle.mv_base.specs.Effects.{Answer, Ret, IsAnswer}
+use Rattle.mv_base.specs.Memory.{Memory, exec_byte, exec_bytes, address_after, joined}
+use Rattle.x86_insn.specs.declared.flags.Flags.{Flags}
+use Rattle.x86_insn.specs.declared.insn.Flow.TheVariants as flow
+use Rattle.x86_insn.specs.declared.insn.Insn.{Insn}
+use Rattle.x86_insn.specs.declared.insn.Insn.TheVariants.{Mov, Int80}
+use Rattle.x86_insn.specs.declared.insn.Reg.TheVariants.{Eax, Ebx}
+use Rattle.x86_insn.specs.declared.insn.Rm.TheVariants as rm
+use Rattle.x86_insn.specs.declared.insn.Src.TheVariants as src
+use Rattle.x86_insn.specs.declared.insn.Width.TheVariants.{D}
+use Rattle.x86_insn.specs.Flow.{flow_of}
+use Rattle.x86_insn.specs.Spelling.{spelled, decoded}
+use Rattle.x86_insn.specs.State.{Core, State, Next}
+use Rattle.x86_insn.specs.Round.{Ends, round, limit}
+use Rattle.x86_insn.specs.Step.{Found, fetch, after_turn, rounds, after_rounds, executed, step}
 use Rattle.x86_insn.specs.Run.{state_after}
-use Rattle.x86_insn.specs.Round.{round, limit, hop}
-use Rattle.x86_insn.specs.Spelling.{decoded, first_spelled, spelled}
-use Rattle.elf32_read.specs.Load.{load, segment_cell}
+use Rattle.x86_decode.specs.Laws.{decoded_by_front}
+use Rattle.elf32_read.specs.Faults.{refusal, load_refusal, limit_fault, head_fault, headers_fault, header_fault, segment_fault}
 use Rattle.elf32_read.specs.Fields.{headers, header_at, segments}
+use Rattle.elf32_read.specs.Load.{load, segment_cell}
 use Rattle.elf32_write.specs.Frame.{Frame}
-use Rattle.mv_rewrite.specs.Simulation.{Start, IsStart, run_state, IsClear, IsClearStep}
+use Rattle.superset.specs.Flows.{has_piece}
+use Rattle.mv_rewrite.specs.Simulation.{Start, IsStart, begin, run_state, effects_of, effects_by_flow, IsClearEffect, IsClearOutcome, IsClearPlace, IsClearStep, IsClear}
+use Rattle.mv_rewrite.proofs.DecodedAlike.{from_found}
+use Rattle.mv_rewrite.proofs.OneStep.{one_more}
+use Rattle.mv_rewrite.proofs.Standing.{fetched_step}
+use Rattle.mv_rewrite.proofs.StepTable.{one_round, turn_ends}
 
 abbrev pub file : List ℕ
 file =
@@ -65,32 +78,111 @@ is_start = record {
 pub are_answers : AllByRecursion IsAnswer answers
 are_answers = ((omega arith, tt), tt)
 
+-- ---- what stands at the three addresses
+
+abbrev memory : Memory
+memory = joined (load file) start.cells
+
+stands : (a y n : ℕ) (bytes : List ℕ) (i : Insn) → exec_byte memory a ≡ Some y → exec_bytes (exec_byte memory) a 15 ≡ bytes → n ≤ length bytes → spelled (take n bytes) ≡ Some i → fetch memory a ≡ Found i n
+stands a y n bytes i first there long spells =
+    from_found (exec_byte memory) a i n (record { first = (y, first); reads = ap decoded there ∙ decoded_by_front bytes i n long spells })
+
+-- `mov eax,1`
+first_spelled : spelled (0xB8 ∷ 1 ∷ 0 ∷ 0 ∷ 0 ∷ []) ≡ Some (Mov D (rm.R Eax) (src.Imm 1))
+unfolding spelled number
+first_spelled = refl
+
+first_found : fetch memory 0x08048054 ≡ Found (Mov D (rm.R Eax) (src.Imm 1)) 5
+unfolding exec_bytes load segment_cell segments headers header_at half_at word_at
+first_found = stands 0x08048054 0xB8 5 (0xB8 ∷ 1 ∷ 0 ∷ 0 ∷ 0 ∷ 0xBB ∷ 7 ∷ 0 ∷ 0 ∷ 0 ∷ 0xCD ∷ 0x80 ∷ []) _ refl refl (omega arith) first_spelled
+
+-- `mov ebx,7`
+second_spelled : spelled (0xBB ∷ 7 ∷ 0 ∷ 0 ∷ 0 ∷ []) ≡ Some (Mov D (rm.R Ebx) (src.Imm 7))
+unfolding spelled number
+second_spelled = refl
+
+second_found : fetch memory 0x08048059 ≡ Found (Mov D (rm.R Ebx) (src.Imm 7)) 5
+unfolding exec_bytes load segment_cell segments headers header_at half_at word_at
+second_found = stands 0x08048059 0xBB 5 (0xBB ∷ 7 ∷ 0 ∷ 0 ∷ 0 ∷ 0xCD ∷ 0x80 ∷ []) _ refl refl (omega arith) second_spelled
+
+-- `int 0x80`
+third_spelled : spelled (0xCD ∷ 0x80 ∷ []) ≡ Some Int80
+unfolding spelled
+third_spelled = refl
+
+third_found : fetch memory 0x0804805E ≡ Found Int80 2
+unfolding exec_bytes load segment_cell segments headers header_at half_at word_at
+third_found = stands 0x0804805E 0xCD 2 (0xCD ∷ 0x80 ∷ []) _ refl refl (omega arith) third_spelled
+
+-- ---- the states
+
+abbrev core_of : ℕ → ℕ → Core
+core_of eax ebx = record { regs = eax ∷ 0 ∷ 0 ∷ ebx ∷ 0 ∷ 0 ∷ 0 ∷ 0 ∷ []; flags = no_flags }
+
+abbrev state_at : ℕ → Core → State
+state_at eip core = record { core = core; eip = eip; memory = memory; answers = answers; calls = [] }
+
+abbrev last : State
+last = record (state_at 0x08048060 (core_of 5 7)) { answers = []; calls = (1 ∷ 7 ∷ 0 ∷ 0 ∷ 0 ∷ 0 ∷ 0 ∷ []) ∷ [] }
+
+-- a move of a number to a register is one round
+first_round : (limit (Mov D (rm.R Eax) (src.Imm 1)) (core_of 0 0) ≡ 1) × (round (Mov D (rm.R Eax) (src.Imm 1)) (core_of 0 0) [] ≡ Ends (core_of 1 0) None false)
+unfolding limit round
+first_round = (refl, refl)
+
+second_round : (limit (Mov D (rm.R Ebx) (src.Imm 7)) (core_of 1 0) ≡ 1) × (round (Mov D (rm.R Ebx) (src.Imm 7)) (core_of 1 0) [] ≡ Ends (core_of 1 7) None false)
+unfolding limit round
+second_round = (refl, refl)
+
+moves : (s : State) (i : Insn) (n : ℕ) (c : Core) → fetch s.memory s.eip ≡ Found i n → flow_of i ≡ flow.Plain → (limit i s.core ≡ 1) × (round i s.core [] ≡ Ends c None false) → step s ≡ Next (record s { core = c; eip = address_after s.eip n })
+moves s i n c found plain once =
+    let next = address_after s.eip n in
+    fetched_step s i n found
+    ∙ ap (executed s i next) plain
+    ∙ ap (λ k. after_rounds s next (rounds k i s.core s.memory)) once.0
+    ∙ ap (after_rounds s next) (one_round i s.core s.memory ∙ ap (λ p. after_turn p s.core s.memory (rounds 0 i)) (turn_ends s.memory (round i s.core) c false once.1))
+
+first_step : step (state_at 0x08048054 (core_of 0 0)) ≡ Next (state_at 0x08048059 (core_of 1 0))
+first_step = moves (state_at 0x08048054 (core_of 0 0)) _ 5 (core_of 1 0) first_found refl first_round
+
+second_step : step (state_at 0x08048059 (core_of 1 0)) ≡ Next (state_at 0x0804805E (core_of 1 7))
+second_step = moves (state_at 0x08048059 (core_of 1 0)) _ 5 (core_of 1 7) second_found refl second_round
+
+third_step : step (state_at 0x0804805E (core_of 1 7)) ≡ Next last
+third_step = fetched_step (state_at 0x0804805E (core_of 1 7)) Int80 2 third_found
+
+begins : run_state file start answers 0 ≡ Some (state_at 0x08048054 (core_of 0 0))
+unfolding state_after word_at
+begins = refl
+
+first_state : run_state file start answers 1 ≡ Some (state_at 0x08048059 (core_of 1 0))
+first_state = one_more 0 (begin file start answers) (state_at 0x08048054 (core_of 0 0)) (state_at 0x08048059 (core_of 1 0)) begins first_step
+
+second_state : run_state file start answers 2 ≡ Some (state_at 0x0804805E (core_of 1 7))
+second_state = one_more 1 (begin file start answers) (state_at 0x08048059 (core_of 1 0)) (state_at 0x0804805E (core_of 1 7)) first_state second_step
+
 -- three steps complete
 pub three_steps : is_some (run_state file start answers 3) ≡ true
-unfolding state_after step rounds asks round limit hop fetch_in decoded first_spelled spelled exec_bytes first_failing bytes_at load segment_cell segments headers header_at half_at word_at number applied
-three_steps = refl
+three_steps = ap is_some (one_more 2 (begin file start answers) (state_at 0x0804805E (core_of 1 7)) last second_state third_step)
+
+-- ---- they are clear
+
+clear_here : (f : Frame) (o o' : State) (i : Insn) (n : ℕ) → fetch o.memory o.eip ≡ Found i n → step o ≡ Next o' → has_piece (flow_of i) ≡ true → effects_by_flow (flow_of i) o.answers ≡ [] → IsClearStep file f o
+clear_here f o o' i n found steps placed none = record {
+  effects_clear = subst (AllByRecursion (IsClearEffect file f)) (sym (ap (λ r. effects_of r o.answers) found ∙ none)) tt;
+  stop_clear = subst (IsClearOutcome f) (sym steps) tt;
+  place_clear = subst IsClearPlace (sym found) placed;
+}
 
 -- a state, where there is one, begins a clear step
 abbrev pub ClearAt : Frame → Option State → Type 0
 ClearAt f None = Unit {0}
 ClearAt f (Some o) = IsClearStep file f o
 
-first_clear : (f : Frame) → ClearAt f (run_state file start answers 0)
-unfolding state_after step rounds asks round limit hop fetch_in decoded first_spelled spelled exec_bytes first_failing bytes_at load segment_cell segments headers header_at half_at word_at number applied
-first_clear f = record { effects_clear = tt; stop_clear = tt }
-
-second_clear : (f : Frame) → ClearAt f (run_state file start answers 1)
-unfolding state_after step rounds asks round limit hop fetch_in decoded first_spelled spelled exec_bytes first_failing bytes_at load segment_cell segments headers header_at half_at word_at number applied
-second_clear f = record { effects_clear = tt; stop_clear = tt }
-
-third_clear : (f : Frame) → ClearAt f (run_state file start answers 2)
-unfolding state_after step rounds asks round limit hop fetch_in decoded first_spelled spelled exec_bytes first_failing bytes_at load segment_cell segments headers header_at half_at word_at number applied
-third_clear f = record { effects_clear = tt; stop_clear = tt }
-
 clear_at : (f : Frame) (j : ℕ) → j < 3 → ClearAt f (run_state file start answers j)
-clear_at f zero low = first_clear f
-clear_at f (suc zero) low = second_clear f
-clear_at f (suc (suc zero)) low = third_clear f
+clear_at f zero low = subst (ClearAt f) (sym begins) (clear_here f _ _ _ 5 first_found first_step refl refl)
+clear_at f (suc zero) low = subst (ClearAt f) (sym first_state) (clear_here f _ _ _ 5 second_found second_step refl refl)
+clear_at f (suc (suc zero)) low = subst (ClearAt f) (sym second_state) (clear_here f _ _ _ 2 third_found third_step refl refl)
 clear_at f (suc (suc (suc j))) low = absurd (omega (arith, low))
 
 -- and they are clear, for any frame

@@ -15,9 +15,10 @@ use Rattle.elf32_read.specs.Segments.{code_of-runs_of, AreApart-runs_of}
 use Rattle.elf32_read.specs.Whole.{Ascends, Ascends-whole}
 use Rattle.elf32_write.specs.declared.plan.Plan.{Plan}
 use Rattle.elf32_write.specs.Format.{up}
-use Rattle.mv_rewrite.specs.declared.site.Site.{Site}
+use Rattle.superset.specs.declared.site.Site.{Site}
 use Rattle.mv_rewrite.specs.declared.table.AddressTable.{AddressTable}
-use Rattle.mv_rewrite.specs.Sites.{code_in, sites, sites_in, addresses}
+use Rattle.superset.specs.Sites.{addresses}
+use Rattle.mv_rewrite.specs.Sites.{code_in, sites, placed_in}
 use Rattle.mv_rewrite.specs.Pieces.{slots}
 use Rattle.mv_rewrite.specs.Layout.{size, places, entry_in, moved, has_room, lowest, first_fit, base_of, plan_at, table, run_places}
 use Rattle.mv_rewrite.specs.Laying.{IsLaid}
@@ -26,7 +27,8 @@ use Rattle.mv_rewrite.specs.Room.{ArePagesApart}
 use Rattle.mv_rewrite.specs.Slots.{AreShort}
 use Rattle.mv_base.specs.Table.{entry_or, flat_entry}
 use Rattle.mv_rewrite.proofs.Planned.{length-addresses}
-use Rattle.mv_rewrite.proofs.SiteList.{sites_ascend, sites_mapped, sites_short, sites_count, entry_fits}
+use Rattle.mv_rewrite.proofs.SiteList.{sites_ascend, sites_mapped, sites_short, sites_count}
+use Rattle.mv_rewrite.proofs.SlotPlaces.{entry_in-le}
 use Rattle.mv_rewrite.proofs.TableWords.{table_entry_is, table_has_words}
 
 -- functions that agree are the same
@@ -54,9 +56,9 @@ code_are : (b : List ℕ) → load_refusal b ≡ None → code_in b ≡ code_of 
 code_are b whole = same_code (code_in b) (code_of (runs_of b)) (code_of-runs_of b whole)
 
 -- the sites of a file are those of its runs
-pub sites_of_runs : (b : List ℕ) → load_refusal b ≡ None → sites b ≡ sites_in (code_of (runs_of b)) (runs_of b)
+pub sites_of_runs : (b : List ℕ) → load_refusal b ≡ None → sites b ≡ placed_in (code_of (runs_of b)) (runs_of b)
 unfolding sites
-sites_of_runs b whole = ap (λ (c : ℕ → Option ℕ). sites_in c (runs_of b)) (code_are b whole)
+sites_of_runs b whole = ap (λ (c : ℕ → Option ℕ). placed_in c (runs_of b)) (code_are b whole)
 
 size_is : (b : List ℕ) → size b ≡ up (32 * length (sites b)) + up (4 * length (addresses (runs_of b))) + 4096
 unfolding size
@@ -152,7 +154,7 @@ moves_as b rs ss base lo t facts room is =
     ap (λ (x : List ℕ). flat_entry x t.lo t.places a) is.bytes_are
     ∙ ap (λ (x : ℕ). flat_entry (table pairs rs) x t.places a) is.lo_is
     ∙ ap (λ (x : List RunPlace). flat_entry (table pairs rs) lo x a) is.places_are
-    ∙ table_entry_is pairs rs lo (λ x. omega (arith, entry_fits ss base x)) (facts.mapped base) a in
+    ∙ table_entry_is pairs rs lo (λ x. omega (arith, entry_in-le ss base x)) (facts.mapped base) a in
     same_moves (table_move t) (moved pairs) (λ a. ap (λ (x : ℕ). entry_or x a) (entry a))
 
 pub covered : (pairs : List (ℕ × ℕ)) (rs : List Run) (lo : ℕ) (t : AddressTable) → IsTable pairs rs lo t → HasWords t.bytes t.lo t.places

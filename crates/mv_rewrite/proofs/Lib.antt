@@ -1,19 +1,17 @@
 -- why the code gives what the definitions say
 pub mod Instance
+pub mod PlacedSites
 pub mod PairWalk
 pub mod Fit
-pub mod Fronts
 pub mod RunOrder
-pub mod RunSites
 pub mod SiteList
 pub mod SlotSteps
-pub mod Spellings
 pub mod TableWords
 pub mod LayoutFacts
 -- what stands where in an output, and how it loads, lowest first
 pub mod EntryWords
 pub mod SlotPlaces
-pub mod Placed
+pub mod PlacedPlan
 pub mod Parts
 pub mod Written
 pub mod Fine

@@ -1,22 +1,14 @@
 -- A near jump: what its bytes spell, and where it goes.
-use Rattle.std.proofs.Common.{◌≡◌, ℕ, ◌+◌, ◌%◌, ◌^◌, ◌<◌, [], ◌∷◌, length, take, Option, Some, slice_index, refl, ap, ◌∙◌, subst, arith, add-zero}
-use Rattle.byteorder.specs.Numbers.{little_number-reads_back}
-use Rattle.mv_base.specs.Bytes.{number, word}
+use Rattle.std.proofs.Common.{◌≡◌, ℕ, ◌+◌, ◌%◌, ◌^◌, ◌<◌, List, [], ◌∷◌, length, take, Option, Some, slice_index, refl, sym, ap, ◌∙◌, subst, arith, add-zero}
+use Rattle.std.proofs.lemmas.List.{append-nil}
+use Rattle.mv_base.specs.Bytes.{word}
 use Rattle.mv_base.specs.Memory.{address_after, distance, exec_bytes}
 use Rattle.x86_insn.specs.declared.insn.Insn.TheVariants.{Jump}
-use Rattle.x86_insn.specs.Spelling.{spelled, first_spelled, decoded}
+use Rattle.x86_insn.specs.Spelling.{decoded}
 use Rattle.x86_insn.specs.Step.{Found, fetch_in}
+use Rattle.x86_decode.specs.Laws.{decoded_near_jump}
 use Rattle.mv_rewrite.specs.Pieces.{jump_bytes}
 use Rattle.mv_rewrite.proofs.DecodedAlike.{decoded_alike, bytes_stand, from_found}
-
--- E9 and four bytes
-jump_spelled : (a b c d : ℕ) → decoded (0xE9 ∷ a ∷ b ∷ c ∷ d ∷ []) ≡ Some (Jump (number (a ∷ b ∷ c ∷ d ∷ [])), 5)
-unfolding decoded first_spelled spelled
-jump_spelled a b c d = refl
-
-word_number : (n : ℕ) → n < 2 ^ 32 → number (word n) ≡ n
-unfolding number word
-word_number n h = little_number-reads_back 4 n [] h
 
 pub jump_len : (here to : ℕ) → length (jump_bytes here to) ≡ 5
 unfolding word
@@ -25,17 +17,15 @@ jump_len here to = refl
 distance_below : (a b : ℕ) → distance a b < 2 ^ 32
 distance_below a b = omega arith
 
-word_spelled : (n : ℕ) → decoded (0xE9 ∷ word n) ≡ Some (Jump (number (word n)), 5)
-unfolding word
-word_spelled n = jump_spelled _ _ _ _
-
 -- the displacement of a jump
 pub reach : ℕ → ℕ → ℕ
 reach here to = distance (address_after here 5) to
 
 jump_decoded : (here to : ℕ) → decoded (jump_bytes here to) ≡ Some (Jump (reach here to), 5)
 unfolding reach
-jump_decoded here to = word_spelled _ ∙ ap (λ (n : ℕ). Some (Jump n, 5)) (word_number (distance (address_after here 5) to) (distance_below _ to))
+jump_decoded here to =
+    let n = distance (address_after here 5) to in
+    ap (λ (t : List ℕ). decoded (0xE9 ∷ t)) (sym (append-nil (word n))) ∙ decoded_near_jump n [] (distance_below (address_after here 5) to)
 
 pub jump_found : (code : ℕ → Option ℕ) (here to : ℕ) → ((k : ℕ) → k < 5 → code (here + k) ≡ Some (slice_index (jump_bytes here to) k)) → fetch_in code here ≡ Found (Jump (reach here to)) 5
 jump_found code here to at =

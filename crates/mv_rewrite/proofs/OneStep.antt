@@ -1,6 +1,7 @@
 -- One step of the input: from agreeing states, the output comes within its bound to a state that agrees again.
-use Rattle.std.proofs.Common.{◌≡◌, ℕ, zero, suc, ◌⊎◌, inl, inr, ◌+◌, ◌%◌, ◌^◌, ◌<◌, ◌≤◌, false, List, [], ◌++◌, length, Some, refl, sym, ap, ◌∙◌, subst, arith}
+use Rattle.std.proofs.Common.{◌≡◌, ℕ, zero, suc, ◌⊎◌, inl, inr, ◌+◌, ◌%◌, ◌^◌, ◌<◌, ◌≤◌, true, false, List, [], ◌++◌, length, Some, refl, sym, ap, ◌∙◌, subst, arith}
 use Rattle.std.specs.List.{AllByRecursion}
+use Rattle.std.proofs.lemmas.Bool.{true≢false}
 use Rattle.std.proofs.lemmas.Option.{same_Some}
 use Rattle.std.specs.Option.{option_and_then}
 use Rattle.mv_base.specs.Memory.{address_after}
@@ -10,18 +11,18 @@ use Rattle.x86_insn.specs.declared.insn.Flow.{Flow}
 use Rattle.x86_insn.specs.declared.insn.Flow.TheVariants as flow
 use Rattle.x86_insn.specs.Flow.{flow_of}
 use Rattle.x86_insn.specs.State.{State, Stop, Outcome, Next, Stopped}
-use Rattle.x86_insn.specs.Round.{hop}
-use Rattle.x86_insn.specs.Step.{Fetched, Absent, Found, Unknown, fetch, turn, after_hop, executed, stepped, step}
+use Rattle.x86_insn.specs.Step.{Fetched, Absent, Found, Unknown, fetch, executed, stepped, step}
 use Rattle.x86_insn.specs.Run.{next_of, next_state, state_after}
 use Rattle.elf32_write.specs.Frame.{Frame, frame_map}
+use Rattle.superset.specs.Flows.{has_piece}
 use Rattle.mv_rewrite.specs.Pieces.{jump_bytes}
 use Rattle.mv_rewrite.specs.Relocated.{StandAt, IsRelocated}
-use Rattle.mv_rewrite.specs.Simulation.{effects_of, effects_by_flow, IsClearEffect, IsClearOutcome, IsClearStep, Agree, step_bound}
+use Rattle.mv_rewrite.specs.Simulation.{effects_of, effects_by_flow, IsClearEffect, IsClearOutcome, IsClearPlace, IsClearStep, Agree, step_bound}
 use Rattle.mv_rewrite.specs.Stopping.{ShowsSame}
 use Rattle.mv_rewrite.proofs.Likeness.{Alike}
 use Rattle.mv_rewrite.proofs.Copied.{StatesAlike, IsCopied}
 use Rattle.mv_rewrite.proofs.NearJump.{jump_len}
-use Rattle.mv_rewrite.proofs.StepTable.{is_jump, trap_stops, other_stops, is_direct, jump_steps}
+use Rattle.mv_rewrite.proofs.StepTable.{trap_stops, is_direct, jump_steps}
 use Rattle.mv_rewrite.proofs.Standing.{stand_front, stand_back, stand_low, jump_step}
 use Rattle.mv_rewrite.proofs.Sound.{IsSound, alike_of, answers_left}
 use Rattle.mv_rewrite.proofs.AtSite.{copy_bytes, AtSite, MeetsAt, copy_len, slot_stands, copied_alike}
@@ -81,6 +82,10 @@ stopped_next why u v e = absurd (subst Stops e tt)
     Stops (Next s) = ⊥
     Stops (Stopped w s) = Unit {0}
 
+-- a flow that has no piece is not that of an instruction whose flow has one
+pub unplaced : {P : Type 0} (i : Insn) (fl : Flow) → has_piece fl ≡ false → flow_of i ≡ fl → has_piece (flow_of i) ≡ true → P
+unplaced i fl none k h = absurd (true≢false (sym h ∙ (ap has_piece k ∙ none)))
+
 -- the join behind a copy
 abbrev join_bytes : List ℕ → Frame → State → ℕ → List ℕ
 join_bytes b f o n = jump_bytes (frame_map f o.eip + length (copy_bytes b o n)) (frame_map f (address_after o.eip n))
@@ -137,10 +142,6 @@ module _ (b x : List ℕ) (f : Frame) (rel : IsRelocated b x f) where
 
   -- ---- one step
 
-  -- the other transfers have no row yet
-  other_comes : (o o' t : State) (i : Insn) (n : ℕ) (fl : Flow) → is_jump fl ≡ false → flow_of i ≡ fl → after_hop o (turn o.memory (hop (address_after o.eip n) i o.core)) ≡ Next o' → Comes b x f o o' t
-  other_comes o o' t i n fl other k st = stopped_next _ o o' (sym (other_stops o i (address_after o.eip n) fl other k) ∙ st)
-
   flow_comes : (o o' t : State) (i : Insn) (n : ℕ) (fl : Flow) → AtSite b x f o t i n → flow_of i ≡ fl → AllByRecursion (IsClearEffect b f) (effects_by_flow fl o.answers) → executed o i (address_after o.eip n) fl ≡ Next o' → Comes b x f o o' t
   flow_comes o o' t i n flow.Plain s k h st = copied_comes o o' t i n flow.Plain tt s k h (slot_stands b x f rel o t i n flow.Plain s k) st
   flow_comes o o' t i n flow.System s k h st = copied_comes o o' t i n flow.System tt s k h (slot_stands b x f rel o t i n flow.System s k) st
@@ -148,22 +149,22 @@ module _ (b x : List ℕ) (f : Frame) (rel : IsRelocated b x f) where
   flow_comes o o' t i n flow.Jump s k h st =
       let d = is_direct i k in
       jump_comes o o' t d.0 n (subst (λ j. AtSite b x f o t j n) d.1 s) (subst (λ j. executed o j (address_after o.eip n) flow.Jump ≡ Next o') d.1 st)
-  flow_comes o o' t i n flow.Branch s k h st = other_comes o o' t i n flow.Branch refl k st
-  flow_comes o o' t i n flow.Count s k h st = other_comes o o' t i n flow.Count refl k st
-  flow_comes o o' t i n flow.Call s k h st = other_comes o o' t i n flow.Call refl k st
-  flow_comes o o' t i n flow.JumpVia s k h st = other_comes o o' t i n flow.JumpVia refl k st
-  flow_comes o o' t i n flow.CallVia s k h st = other_comes o o' t i n flow.CallVia refl k st
-  flow_comes o o' t i n flow.Return s k h st = other_comes o o' t i n flow.Return refl k st
+  flow_comes o o' t i n flow.Branch s k h st = unplaced i flow.Branch refl k s.placed
+  flow_comes o o' t i n flow.Count s k h st = unplaced i flow.Count refl k s.placed
+  flow_comes o o' t i n flow.Call s k h st = unplaced i flow.Call refl k s.placed
+  flow_comes o o' t i n flow.JumpVia s k h st = unplaced i flow.JumpVia refl k s.placed
+  flow_comes o o' t i n flow.CallVia s k h st = unplaced i flow.CallVia refl k s.placed
+  flow_comes o o' t i n flow.Return s k h st = unplaced i flow.Return refl k s.placed
 
-  fetched_comes : (o o' t : State) (r : Fetched) → IsSound o → StatesAlike (Alike b x f) o t → t.eip ≡ frame_map f o.eip → fetch o.memory o.eip ≡ r → AllByRecursion (IsClearEffect b f) (effects_of r o.answers) → stepped o r ≡ Next o' → Comes b x f o o' t
-  fetched_comes o o' t Absent sound s place e h st = stopped_next _ o o' st
-  fetched_comes o o' t (Found i n) sound s place e h st = flow_comes o o' t i n (flow_of i) (record { sound = sound; alike = s; place = place; found = e }) refl h st
-  fetched_comes o o' t Unknown sound s place e h st = stopped_next _ o o' st
+  fetched_comes : (o o' t : State) (r : Fetched) → IsSound o → StatesAlike (Alike b x f) o t → t.eip ≡ frame_map f o.eip → fetch o.memory o.eip ≡ r → IsClearPlace r → AllByRecursion (IsClearEffect b f) (effects_of r o.answers) → stepped o r ≡ Next o' → Comes b x f o o' t
+  fetched_comes o o' t Absent sound s place e p h st = stopped_next _ o o' st
+  fetched_comes o o' t (Found i n) sound s place e p h st = flow_comes o o' t i n (flow_of i) (record { sound = sound; alike = s; place = place; found = e; placed = p }) refl h st
+  fetched_comes o o' t Unknown sound s place e p h st = stopped_next _ o o' st
 
   -- from agreeing states and a step of the input that is clear and completes, the output comes to a state that agrees
   pub step_comes : (o o' t : State) (c : ℕ → ℕ) → IsSound o → Agree b x f o t c → IsClearStep b f o → step o ≡ Next o' → Comes b x f o o' t
   unfolding step
-  step_comes o o' t c sound a clear st = fetched_comes o o' t (fetch o.memory o.eip) sound (alike_of b x f o t c sound a) a.place refl clear.effects_clear st
+  step_comes o o' t c sound a clear st = fetched_comes o o' t (fetch o.memory o.eip) sound (alike_of b x f o t c sound a) a.place refl clear.place_clear clear.effects_clear st
 
   -- and the input's state keeps its bounds
   pub step_sound : (o o' t : State) → IsSound o → Comes b x f o o' t → step o ≡ Next o' → IsSound o'

@@ -16,7 +16,7 @@ use Rattle.mv_rewrite.specs.Layout.{code_len, table_len, moved, pairs_at, plan_a
 use Rattle.mv_rewrite.specs.Output.{output_at}
 use Rattle.mv_rewrite.specs.OutputFile.{IsWrittenFor}
 use Rattle.mv_rewrite.proofs.Parts.{Stands}
-use Rattle.mv_rewrite.proofs.Placed.{map_is}
+use Rattle.mv_rewrite.proofs.PlacedPlan.{map_is}
 use Rattle.mv_rewrite.proofs.NewHeaders.{Block, code_of_block, table_of_block, private_of_block, block_headers}
 use Rattle.mv_rewrite.proofs.NewCells.{within_not, within_is, inner_cell, header_cell, cells_of, loads, cell_inside, cell_outside, three, InBlock, output_in, private_cell}
 use Rattle.mv_rewrite.proofs.Planned.{length-code, length-table_of, IsInput, block, wrote, is_block, headers_apart, output_headers}

@@ -6,7 +6,7 @@ use Rattle.std.proofs.lemmas.List.{append_assoc, map-append}
 use Rattle.mv_base.specs.Bytes.{words, word}
 use Rattle.mv_rewrite.specs.Layout.{entry_in}
 use Rattle.mv_rewrite.specs.Lookup.{Ascend}
-use Rattle.mv_rewrite.proofs.RunSites.{range_more}
+use Rattle.superset.specs.RunBytes.{range_more}
 use Rattle.elf32_write.specs.Words.{words-append}
 use Rattle.mv_rewrite.proofs.RunOrder.{words_one}
 

@@ -21,9 +21,10 @@ use Rattle.elf32_read.specs.Runs as runs
 use Rattle.elf32_write.specs.Format.{up}
 use Rattle.elf32_write.specs.File.{head_len, code_place, table_of, kept_header, added_header, with_added, new_headers, file_of}
 use Rattle.elf32_write.specs.Words.{length-words}
-use Rattle.mv_rewrite.specs.Sites.{code_in, addresses, run_addresses, sites, sites_in}
+use Rattle.superset.specs.Sites.{addresses, run_addresses}
+use Rattle.mv_rewrite.specs.Sites.{code_in, sites}
 use Rattle.mv_rewrite.specs.Layout.{moved, entry_in, is_apart, has_room, lowest, first_fit, base_of, size, code_len, table_len, pairs_at, run_places, table, plan_at}
-use Rattle.mv_rewrite.proofs.SlotPlaces.{length-slots, entry_in-le}
+use Rattle.mv_rewrite.proofs.SlotPlaces.{length-file_slots, entry_in-le}
 use Rattle.mv_rewrite.proofs.Parts.{IsHeader}
 use Rattle.mv_rewrite.proofs.Written.{IsWritable, IsWritten, written}
 use Rattle.mv_rewrite.proofs.Fine.{passed, neither}
@@ -48,8 +49,8 @@ lowest_passes test (suc n) from q e =
 
 module _ (b : List ℕ) (base : ℕ) where
   pub length-code : length (plan_at b base).code ≡ code_len b
-  unfolding plan_at sites sites_in
-  length-code = length-slots (moved (pairs_at b base)) (code_in b) (addresses (runs_of b)) base
+  unfolding plan_at
+  length-code = length-file_slots (moved (pairs_at b base)) b base
 
   pub length-table : length (plan_at b base).table ≡ table_len b
   unfolding plan_at table

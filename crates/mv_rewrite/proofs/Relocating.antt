@@ -12,7 +12,7 @@ use Rattle.elf32_write.specs.Frame.{is_added, is_private}
 use Rattle.elf32_write.specs.Within.{within_parts}
 use Rattle.mv_rewrite.specs.Layout.{code_len, table_len, plan_at}
 use Rattle.mv_rewrite.specs.Relocated.{IsRelocated, without_exec}
-use Rattle.mv_rewrite.proofs.Placed.{IsPlaced, map_is, others, mapped, pieces}
+use Rattle.mv_rewrite.proofs.PlacedPlan.{IsPlaced, map_is, others, mapped, pieces}
 use Rattle.mv_rewrite.proofs.Fine.{IsFine}
 use Rattle.mv_rewrite.proofs.NewHeaders.{Block, IsBlock, block_headers, AreApart, fine_parts}
 use Rattle.mv_rewrite.proofs.NewCells.{not_within, header_cell, cells_of, loads, cell_inside, cell_outside, cell_unloaded, within_not, kept_cells, InBlock, OutOfBlock, output_out, output_in, code_cell, block_fixed, private_cell}

@@ -10,7 +10,7 @@ use Rattle.mv_base.specs.declared.range.RunPlace.{RunPlace}
 use Rattle.elf32_read.specs.declared.run.Run.{Run}
 use Rattle.elf32_read.specs.Runs.{AreApart}
 use Rattle.elf32_write.specs.Words.{words-append}
-use Rattle.mv_rewrite.specs.Sites.{run_addresses, addresses}
+use Rattle.superset.specs.Sites.{run_addresses, addresses}
 use Rattle.mv_rewrite.specs.Layout.{entry_in, table, run_places}
 
 -- the address behind the gap after the last run, or an address where there is no run

@@ -1,15 +1,17 @@
 -- The output of a relocated file stops where its input stops, and shows nothing else on the way.
-use Rattle.std.proofs.Common.{◌≡◌, ℕ, inl, inr, ◌+◌, List, Option, Some, is_some, refl, sym, ap, ◌∙◌, subst, arith}
+use Rattle.std.proofs.Common.{◌≡◌, ℕ, inl, inr, ◌+◌, List, Option, Some, None, is_some, cond, refl, sym, ap, ◌∙◌, subst, arith}
 use Rattle.std.specs.List.{AllByRecursion}
+use Rattle.std.specs.Option.{option_and_then}
 use Rattle.std.proofs.lemmas.Option.{same_Some}
 use Rattle.mv_base.specs.Effects.{Answer, IsAnswer}
 use Rattle.x86_insn.specs.State.{State, Stop, FetchFault, Trap, Outside, Outcome, Next, Stopped}
 use Rattle.x86_insn.specs.Step.{Fetched, Absent, Found, Unknown, fetch, stepped, step}
 use Rattle.elf32_write.specs.Frame.{Frame, frame}
-use Rattle.mv_rewrite.specs.declared.site.Site.{Site}
-use Rattle.mv_rewrite.specs.Sites.{site_found, site_at, code_in}
+use Rattle.superset.specs.declared.site.Site.{Site}
+use Rattle.superset.specs.Sites.{site_found}
+use Rattle.mv_rewrite.specs.Sites.{if_placed, placed_at, code_in}
 use Rattle.mv_rewrite.specs.Relocated.{IsRelocated}
-use Rattle.mv_rewrite.specs.Simulation.{Start, IsStart, run_state, IsClear, IsClearStep, Agree, newest}
+use Rattle.mv_rewrite.specs.Simulation.{Start, IsStart, run_state, IsClear, IsClearPlace, IsClearStep, Agree, newest}
 use Rattle.mv_rewrite.specs.Stopping.{ShowsSame, QuietIn, StopsSame, StopsAs, StopsIn, Simulates}
 use Rattle.mv_rewrite.proofs.Likeness.{Alike}
 use Rattle.mv_rewrite.proofs.Copied.{StatesAlike}
@@ -44,18 +46,20 @@ module _ (b x : List ℕ) (f : Frame) (rel : IsRelocated b x f) where
   meets_now site o t last n why c (Stopped why' u) st h = record { why_there = why'; last_there = u; stops = st; alike = (h.0, stops_same o.eip last u c h.1) }
 
   -- and by what the input fetches
-  fetched_now : (o t last : State) (why : Stop) (c : ℕ → ℕ) (r : Fetched) → stepped o r ≡ Stopped why last → StopsBy b x f o t (Stopped why last) r → StopsNow (site_found o.eip r) f o t why last c
-  fetched_now o t last why c Absent st h = record { why_there = Trap FetchFault o.eip; last_there = t; stops = h; alike = (refl, refl, inl (ap why_of (sym st))) }
-  fetched_now o t last why c (Found i n) st h = meets_now (record { at = o.eip; len = n; insn = i }) o t last n why c (step t) refl h
-  fetched_now o t last why c Unknown st h = record { why_there = Trap FetchFault o.eip; last_there = t; stops = h; alike = (refl, refl, inr (ap why_of (sym st))) }
+  fetched_now : (o t last : State) (why : Stop) (c : ℕ → ℕ) (r : Fetched) → IsClearPlace r → stepped o r ≡ Stopped why last → StopsBy b x f o t (Stopped why last) r → StopsNow (option_and_then if_placed (site_found o.eip r)) f o t why last c
+  fetched_now o t last why c Absent p st h = record { why_there = Trap FetchFault o.eip; last_there = t; stops = h; alike = (refl, refl, inl (ap why_of (sym st))) }
+  fetched_now o t last why c (Found i n) p st h =
+      let site : Site = record { at = o.eip; len = n; insn = i } in
+      subst (λ v. StopsNow (cond v (Some site) None) f o t why last c) (sym p) (meets_now site o t last n why c (step t) refl h)
+  fetched_now o t last why c Unknown p st h = record { why_there = Trap FetchFault o.eip; last_there = t; stops = h; alike = (refl, refl, inr (ap why_of (sym st))) }
 
   -- from agreeing states and a step of the input that is a stop and clear, the output's next step is such a stop
-  stops_now : (o t last : State) (why : Stop) (c : ℕ → ℕ) → IsSound o → Agree b x f o t c → IsClearStep b f o → step o ≡ Stopped why last → StopsNow (site_at (code_in b) o.eip) f o t why last c
+  stops_now : (o t last : State) (why : Stop) (c : ℕ → ℕ) → IsSound o → Agree b x f o t c → IsClearStep b f o → step o ≡ Stopped why last → StopsNow (placed_at (code_in b) o.eip) f o t why last c
   unfolding step
   stops_now o t last why c sound a clear st =
       let s = alike_of b x f o t c sound a in
       let by = subst (λ r. StopsBy b x f o t r (fetch o.memory o.eip)) st (step_stops b x f rel o last t c why sound a clear st) in
-      subst (λ (code : ℕ → Option ℕ). StopsNow (site_at code o.eip) f o t why last c) (code_same b x f rel o t s) (fetched_now o t last why c (fetch o.memory o.eip) st by)
+      subst (λ (code : ℕ → Option ℕ). StopsNow (placed_at code o.eip) f o t why last c) (code_same b x f rel o t s) (fetched_now o t last why c (fetch o.memory o.eip) clear.place_clear st by)
 
   -- ---- whole runs
 

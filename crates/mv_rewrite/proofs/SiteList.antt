@@ -1,73 +1,23 @@
--- The sites of runs: they ascend, lie in the runs and are at most 15 bytes long.
-use Rattle.std.proofs.Common.{◌≡◌, ◌≢◌, ℕ, zero, suc, ◌+◌, ◌*◌, ◌≤◌, ◌⊎◌, List, [], ◌∷◌, ◌++◌, length, Option, Some, None, refl, sym, ap, ◌∙◌, subst, inl, inr, arith}
-use Rattle.std.specs.List.{filter_map, range_with_len}
-use Rattle.mv_base.specs.Memory.{exec_bytes}
-use Rattle.x86_insn.specs.declared.insn.Insn.{Insn}
-use Rattle.x86_insn.specs.Spelling.{decoded}
-use Rattle.x86_insn.specs.Step.{fetch_in, fetched}
+-- The placed sites of runs: they ascend, lie in the runs and are at most 15 bytes long.
+use Rattle.std.proofs.Common.{◌≡◌, ◌≢◌, ℕ, zero, suc, ◌+◌, ◌≤◌, ◌⊎◌, List, [], ◌∷◌, length, Option, Some, None, refl, sym, ap, ◌∙◌, subst, inl, inr, arith}
+use Rattle.std.specs.List.{filter_map}
 use Rattle.elf32_read.specs.declared.run.Run.{Run}
 use Rattle.elf32_read.specs.Runs.{code_of, AreApart}
-use Rattle.mv_rewrite.specs.declared.site.Site.{Site}
-use Rattle.mv_rewrite.specs.Sites.{site_at, site_found, addresses, sites_in}
+use Rattle.superset.specs.declared.site.Site.{Site}
+use Rattle.superset.specs.Sites.{addresses}
+use Rattle.superset.specs.RunAddresses.{Increase, increase_addresses}
+use Rattle.mv_rewrite.specs.Sites.{placed_at, placed_in}
 use Rattle.mv_rewrite.specs.Layout.{places, entry_in}
 use Rattle.mv_rewrite.specs.Lookup.{Ascend}
 use Rattle.mv_rewrite.specs.Slots.{AreShort}
-use Rattle.mv_rewrite.proofs.Fronts.{decoded_bounds}
-use Rattle.mv_rewrite.proofs.PairWalk.{ascend_weaker, entry_none, entry_here, entry_later}
+use Rattle.std.proofs.lemmas.Option.{none-some}
+use Rattle.mv_rewrite.proofs.PlacedSites.{is_site_at, placed_in-listed}
+use Rattle.mv_rewrite.proofs.PairWalk.{ascend_weaker, entry_none, entry_later}
 use Rattle.mv_rewrite.proofs.SlotSteps.{places_none}
-use Rattle.std.proofs.lemmas.Bool.{cases_eq}
-
--- what a site at an address is
-record IsSiteAt (code : ℕ → Option ℕ) (a : ℕ) (s : Site) : Type 0 where
-  at_is : s.at ≡ a
-  short : s.len ≤ 15
-  mapped : code a ≡ None → ⊥
-
-found_at : (code : ℕ → Option ℕ) (a : ℕ) (s : Site) (o : Option ℕ) (d : Option (Insn × ℕ)) → code a ≡ o → decoded (exec_bytes code a 15) ≡ d → site_found a (fetched o d) ≡ Some s → IsSiteAt code a s
-found_at code a s None d e f h = absurd (cc h)
-found_at code a s (Some b) None e f h = absurd (cc h)
-found_at code a s (Some b) (Some p) e f h =
-    let same : (record { at = a; len = p.1; insn = p.0 }) ≡ s = cc h in
-    let bounds = decoded_bounds (exec_bytes code a 15) p.0 p.1 f in
-    record {
-      at_is = sym (ap (λ (x : Site). x.at) same);
-      short = omega (arith, bounds, ap (λ (x : Site). x.len) same);
-      mapped = λ none. cc (e, none);
-    }
-
-site_is : (code : ℕ → Option ℕ) (a : ℕ) (s : Site) → site_at code a ≡ Some s → IsSiteAt code a s
-unfolding fetch_in
-site_is code a s h = found_at code a s (code a) (decoded (exec_bytes code a 15)) refl refl h
-
-no_site : (code : ℕ → Option ℕ) (a : ℕ) → code a ≡ None → site_at code a ≡ None
-unfolding fetch_in
-no_site code a h = rw h refl
 
 site_cases : (o : Option Site) → (o ≡ None) ⊎ ((s : Site) × (o ≡ Some s))
 site_cases None = inl refl
 site_cases (Some s) = inr (s, refl)
-
--- numbers that strictly ascend from one on
-abbrev Increase : ℕ → List ℕ → Type 0
-Increase from [] = Unit {0}
-Increase from (a ∷ xs) = (from ≤ a) × Increase (a + 1) xs
-
-increase_weaker : (low from : ℕ) (xs : List ℕ) → low ≤ from → Increase from xs → Increase low xs
-increase_weaker low from [] l h = tt
-increase_weaker low from (a ∷ xs) l h = (omega (arith, h.0), h.1)
-
-increase_range : (n lo : ℕ) (xs : List ℕ) → Increase (lo + n) xs → Increase lo (range_with_len lo n ++ xs)
-increase_range zero lo xs h = increase_weaker lo (lo + 0) xs (omega arith) h
-increase_range (suc n) lo xs h =
-    (omega arith, increase_range n (lo + 1) xs (subst (λ (x : ℕ). Increase x xs) (omega arith) h))
-
-increase_addresses : (from : ℕ) (rs : List Run) → AreApart from rs → Increase from (addresses rs)
-unfolding addresses
-increase_addresses from [] h = tt
-increase_addresses from (r ∷ rs) h =
-    let rest = increase_addresses (r.lo + length r.bytes + 1) rs h.3 in
-    increase_weaker from r.lo (addresses (r ∷ rs)) h.0
-    (increase_range (length r.bytes) r.lo (addresses rs) (increase_weaker (r.lo + length r.bytes) (r.lo + length r.bytes + 1) (addresses rs) (omega arith) rest))
 
 places-cons : (at : ℕ) (s : Site) (ss : List Site) → places at (s ∷ ss) ≡ (s.at, at) ∷ places (at + 32) ss
 unfolding places
@@ -80,57 +30,47 @@ keep_some : (f : ℕ → Option Site) (a : ℕ) (xs : List ℕ) (s : Site) → f
 keep_some f a xs s h = rw h refl
 
 -- the sites' addresses ascend
-ascend_places : (code : ℕ → Option ℕ) (xs : List ℕ) (at from : ℕ) → Increase from xs → Ascend from (places at (filter_map (site_at code) xs))
+ascend_places : (code : ℕ → Option ℕ) (xs : List ℕ) (at from : ℕ) → Increase from xs → Ascend from (places at (filter_map (placed_at code) xs))
 ascend_places code [] at from h = subst (λ (t : List (ℕ × ℕ)). Ascend from t) (sym (places_none at)) tt
 ascend_places code (a ∷ xs) at from h =
-    elim (site_cases (site_at code a)) [
+    elim (site_cases (placed_at code a)) [
       | inl e ↦
-          subst (λ (t : List Site). Ascend from (places at t)) (sym (keep_none (site_at code) a xs e))
-          (ascend_weaker from (a + 1) (places at (filter_map (site_at code) xs)) (omega (arith, h.0)) (ascend_places code xs at (a + 1) h.1))
+          subst (λ (t : List Site). Ascend from (places at t)) (sym (keep_none (placed_at code) a xs e))
+          (ascend_weaker from (a + 1) (places at (filter_map (placed_at code) xs)) (omega (arith, h.0)) (ascend_places code xs at (a + 1) h.1))
       | inr w ↦
           let s = w.0 in
-          let facts = site_is code a s w.1 in
+          let facts = is_site_at code a s w.1 in
           let rest = ascend_places code xs (at + 32) (a + 1) h.1 in
-          let next : a + 1 ≡ s.at + 1 = omega (arith, facts.at_is) in
-          subst (λ (t : List (ℕ × ℕ)). Ascend from t) (sym (ap (places at) (keep_some (site_at code) a xs s w.1) ∙ places-cons at s (filter_map (site_at code) xs)))
-          (omega (arith, facts.at_is, h.0), subst (λ (x : ℕ). Ascend x (places (at + 32) (filter_map (site_at code) xs))) next rest)
+          let next : a + 1 ≡ s.at + 1 = omega (arith, facts.here) in
+          subst (λ (t : List (ℕ × ℕ)). Ascend from t) (sym (ap (places at) (keep_some (placed_at code) a xs s w.1) ∙ places-cons at s (filter_map (placed_at code) xs)))
+          (omega (arith, facts.here, h.0), subst (λ (x : ℕ). Ascend x (places (at + 32) (filter_map (placed_at code) xs))) next rest)
     ]
 
 -- an address without a byte has no entry
-entry_unmapped : (code : ℕ → Option ℕ) (xs : List ℕ) (at b : ℕ) → code b ≡ None → entry_in (places at (filter_map (site_at code) xs)) b ≡ 0
+entry_unmapped : (code : ℕ → Option ℕ) (xs : List ℕ) (at b : ℕ) → code b ≡ None → entry_in (places at (filter_map (placed_at code) xs)) b ≡ 0
 entry_unmapped code [] at b none = ap (λ (t : List (ℕ × ℕ)). entry_in t b) (places_none at) ∙ entry_none b
 entry_unmapped code (a ∷ xs) at b none =
-    elim (site_cases (site_at code a)) [
-      | inl e ↦ ap (λ (t : List Site). entry_in (places at t) b) (keep_none (site_at code) a xs e) ∙ entry_unmapped code xs at b none
+    elim (site_cases (placed_at code a)) [
+      | inl e ↦ ap (λ (t : List Site). entry_in (places at t) b) (keep_none (placed_at code) a xs e) ∙ entry_unmapped code xs at b none
       | inr w ↦
           let s = w.0 in
-          let facts = site_is code a s w.1 in
-          let other : s.at ≢ b = λ same. facts.mapped (ap code (sym facts.at_is ∙ same) ∙ none) in
-          ap (λ (t : List (ℕ × ℕ)). entry_in t b) (ap (places at) (keep_some (site_at code) a xs s w.1) ∙ places-cons at s (filter_map (site_at code) xs))
-          ∙ entry_later (s.at, at) (places (at + 32) (filter_map (site_at code) xs)) b other
+          let facts = is_site_at code a s w.1 in
+          let other : s.at ≢ b = λ same. absurd (none-some facts.starts.0 (sym (ap code (sym facts.here ∙ same) ∙ none) ∙ facts.starts.1)) in
+          ap (λ (t : List (ℕ × ℕ)). entry_in t b) (ap (places at) (keep_some (placed_at code) a xs s w.1) ∙ places-cons at s (filter_map (placed_at code) xs))
+          ∙ entry_later (s.at, at) (places (at + 32) (filter_map (placed_at code) xs)) b other
           ∙ entry_unmapped code xs (at + 32) b none
-    ]
-
--- no entry lies above the last slot
-pub entry_fits : (ss : List Site) (at b : ℕ) → entry_in (places at ss) b ≤ at + 32 * length ss
-entry_fits [] at b = omega (arith, ap (λ (t : List (ℕ × ℕ)). entry_in t b) (places_none at) ∙ entry_none b)
-entry_fits (s ∷ ss) at b =
-    let e = ap (λ (t : List (ℕ × ℕ)). entry_in t b) (places-cons at s ss) in
-    elim (cases_eq s.at b) [
-      | inl h ↦ omega (arith, e ∙ entry_here (s.at, at) (places (at + 32) ss) b h)
-      | inr h ↦ omega (arith, e ∙ entry_later (s.at, at) (places (at + 32) ss) b h, entry_fits ss (at + 32) b)
     ]
 
 short_cons : (s : Site) (ss : List Site) → s.len ≤ 15 → AreShort ss → AreShort (s ∷ ss)
 short_cons s ss l h zero = l
 short_cons s ss l h (suc k) = h k
 
-short_list : (code : ℕ → Option ℕ) (xs : List ℕ) → AreShort (filter_map (site_at code) xs)
+short_list : (code : ℕ → Option ℕ) (xs : List ℕ) → AreShort (filter_map (placed_at code) xs)
 short_list code [] k = tt
 short_list code (a ∷ xs) k =
-    elim (site_cases (site_at code a)) [
-      | inl e ↦ subst (λ (t : List Site). AreShort t) (sym (keep_none (site_at code) a xs e)) (short_list code xs) k
-      | inr w ↦ subst (λ (t : List Site). AreShort t) (sym (keep_some (site_at code) a xs w.0 w.1)) (short_cons w.0 (filter_map (site_at code) xs) (site_is code a w.0 w.1).short (short_list code xs)) k
+    elim (site_cases (placed_at code a)) [
+      | inl e ↦ subst (λ (t : List Site). AreShort t) (sym (keep_none (placed_at code) a xs e)) (short_list code xs) k
+      | inr w ↦ subst (λ (t : List Site). AreShort t) (sym (keep_some (placed_at code) a xs w.0 w.1)) (short_cons w.0 (filter_map (placed_at code) xs) (is_site_at code a w.0 w.1).short (short_list code xs)) k
     ]
 
 pub length-filter_map : (f : ℕ → Option Site) (xs : List ℕ) → length (filter_map f xs) ≤ length xs
@@ -141,19 +81,19 @@ length-filter_map f (a ∷ xs) =
       | inr w ↦ omega (arith, ap length (keep_some f a xs w.0 w.1), length-filter_map f xs)
     ]
 
--- the facts of the sites of runs
-pub sites_ascend : (rs : List Run) (base : ℕ) → AreApart 0 rs → Ascend 0 (places base (sites_in (code_of rs) rs))
-unfolding sites_in
-sites_ascend rs base apart = ascend_places (code_of rs) (addresses rs) base 0 (increase_addresses 0 rs apart)
+-- the facts of the placed sites of runs
+pub sites_ascend : (rs : List Run) (base : ℕ) → AreApart 0 rs → Ascend 0 (places base (placed_in (code_of rs) rs))
+sites_ascend rs base apart =
+    subst (λ (ss : List Site). Ascend 0 (places base ss)) (sym (placed_in-listed (code_of rs) rs))
+    (ascend_places (code_of rs) (addresses rs) base 0 (increase_addresses 0 rs apart))
 
-pub sites_mapped : (rs : List Run) (base a : ℕ) → code_of rs a ≡ None → entry_in (places base (sites_in (code_of rs) rs)) a ≡ 0
-unfolding sites_in
-sites_mapped rs base a none = entry_unmapped (code_of rs) (addresses rs) base a none
+pub sites_mapped : (rs : List Run) (base a : ℕ) → code_of rs a ≡ None → entry_in (places base (placed_in (code_of rs) rs)) a ≡ 0
+sites_mapped rs base a none =
+    ap (λ (ss : List Site). entry_in (places base ss) a) (placed_in-listed (code_of rs) rs) ∙ entry_unmapped (code_of rs) (addresses rs) base a none
 
-pub sites_short : (rs : List Run) → AreShort (sites_in (code_of rs) rs)
-unfolding sites_in
-sites_short rs = short_list (code_of rs) (addresses rs)
+pub sites_short : (rs : List Run) → AreShort (placed_in (code_of rs) rs)
+sites_short rs =
+    subst (λ (ss : List Site). AreShort ss) (sym (placed_in-listed (code_of rs) rs)) (short_list (code_of rs) (addresses rs))
 
-pub sites_count : (code : ℕ → Option ℕ) (rs : List Run) → length (sites_in code rs) ≤ length (addresses rs)
-unfolding sites_in
-sites_count code rs = length-filter_map (site_at code) (addresses rs)
+pub sites_count : (code : ℕ → Option ℕ) (rs : List Run) → length (placed_in code rs) ≤ length (addresses rs)
+sites_count code rs = omega (arith, ap length (placed_in-listed code rs), length-filter_map (placed_at code) (addresses rs))

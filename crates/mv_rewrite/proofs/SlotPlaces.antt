@@ -1,108 +1,30 @@
 -- The slots of sites: their length, and which slot an entry names.
-use Rattle.std.proofs.Common.{◌≡◌, ℕ, zero, suc, ◌+◌, ◌-◌, ◌*◌, ◌<◌, ◌≤◌, Bool, true, false, cond, eqb, List, [], ◌∷◌, ◌++◌, length, get_or, take, Option, Some, None, refl, sym, ap, ◌∙◌, subst, inl, inr, arith}
+use Rattle.std.proofs.Common.{◌≡◌, ℕ, zero, suc, ◌+◌, ◌-◌, ◌*◌, ◌<◌, ◌≤◌, Bool, true, false, cond, eqb, List, [], ◌∷◌, ◌++◌, length, get_or, Option, Some, None, refl, sym, ap, ◌∙◌, subst, inl, inr, arith}
 use Rattle.std.specs.Prelude.{slice_index, replicate}
 use Rattle.std.specs.List.{filter_map, cons_option}
 use Rattle.std.proofs.lemmas.List.{length-append, length-replicate, get_or_append_left, get_or-append-add}
-use Rattle.std.proofs.lemmas.List.FromFn.{length-range_with_len, get_or-range_with_len}
-use Rattle.std.proofs.lemmas.Bool.{eq-eqb, ne_eqb, cases_eq, cases_Bool, cond_both}
+use Rattle.std.proofs.lemmas.Bool.{eq-eqb, ne_eqb, cases_eq, cond_both}
 use Rattle.std.proofs.lemmas.Option.{none-some, same_Some}
-use Rattle.mv_base.specs.Bytes.{word}
-use Rattle.mv_base.specs.Memory.{exec_bytes, within}
-use Rattle.x86_insn.specs.declared.insn.Insn.{Insn}
 use Rattle.x86_insn.specs.declared.insn.Flow.{Flow}
 use Rattle.x86_insn.specs.declared.insn.Flow.TheVariants as flow
 use Rattle.x86_insn.specs.Flow.{flow_of, falls}
-use Rattle.x86_insn.specs.Spelling.{spelled, or_else, with_len, first_spelled, decoded}
-use Rattle.x86_insn.specs.Step.{Fetched, Absent, Found, Unknown, fetched, fetch_in}
-use Rattle.elf32_read.specs.declared.run.Run.{Run}
-use Rattle.elf32_read.specs.Runs.{code_of}
-use Rattle.elf32_write.specs.Within.{within_parts}
-use Rattle.mv_rewrite.specs.declared.site.Site.{Site}
-use Rattle.mv_rewrite.specs.Sites.{addresses, run_addresses, site_found, site_at}
+use Rattle.elf32_read.specs.Runs.{runs_of}
+use Rattle.superset.specs.declared.site.Site.{Site}
+use Rattle.superset.specs.Sites.{addresses}
+use Rattle.mv_rewrite.specs.Sites.{placed_at, code_in, sites}
 use Rattle.mv_rewrite.specs.Pieces.{jump_bytes, target, successor, piece_of, piece, join, with_join, slot_len, slot, slots}
 use Rattle.mv_rewrite.specs.Layout.{entry_in, places}
-use Rattle.mv_rewrite.proofs.EntryWords.{code_beyond}
+use Rattle.mv_rewrite.proofs.NearJump.{jump_len}
+use Rattle.mv_rewrite.proofs.PlacedSites.{is_site_at, sites-listed}
+use Rattle.mv_rewrite.proofs.SlotSteps.{exec_short}
 
 -- ---- lengths
 
--- a front that is spelled has a length within the search
-by_front : (o : Option Insn) (k n : ℕ) (rest : Option (Insn × ℕ)) (d : Insn × ℕ) → (rest ≡ Some d → (k + 1 ≤ d.1) × (d.1 < k + 1 + n)) → or_else (with_len k o) rest ≡ Some d → (k ≤ d.1) × (d.1 < k + suc n)
-by_front None k n rest d later e = let p = later e in (omega (arith, p.0), omega (arith, p.1))
-by_front (Some i) k n rest d later e =
-    let len : k ≡ d.1 = ap (λ (p : Insn × ℕ). p.1) (same_Some (i, k) d e) in
-    (omega (arith, len), omega (arith, len))
-
-pub first_spelled-bounds : (n k : ℕ) (bytes : List ℕ) (d : Insn × ℕ) → first_spelled k n bytes ≡ Some d → (k ≤ d.1) × (d.1 < k + n)
-unfolding first_spelled
-first_spelled-bounds zero k bytes d h = absurd (none-some d h)
-first_spelled-bounds (suc n) k bytes d h =
-    by_front (spelled (take k bytes)) k n (first_spelled (k + 1) n bytes) d (λ e. first_spelled-bounds n (k + 1) bytes d e) h
-
-abbrev fetched_parts : ℕ → Fetched → Site → Type 0
-fetched_parts a Absent s = ⊥
-fetched_parts a (Found i n) s = (s.at ≡ a) × (s.len ≡ n) × (s.insn ≡ i)
-fetched_parts a Unknown s = ⊥
-
-site_parts : (a : ℕ) (f : Fetched) (s : Site) → site_found a f ≡ Some s → fetched_parts a f s
-site_parts a Absent s h = absurd (none-some s h)
-site_parts a (Found i n) s h =
-    let e = same_Some (record { at = a; len = n; insn = i }) s h in
-    (sym (ap (λ (t : Site). t.at) e), sym (ap (λ (t : Site). t.len) e), sym (ap (λ (t : Site). t.insn) e))
-site_parts a Unknown s h = absurd (none-some s h)
-
--- what is known of a site at an address: the address, the length, and that its first byte is there
-pub record IsSiteAt (code : ℕ → Option ℕ) (a : ℕ) (s : Site) : Type 0 where
-  pub here : s.at ≡ a
-  pub short : s.len ≤ 15
-  pub some : 0 < s.len
-  pub starts : (b : ℕ) × (code a ≡ Some b)
-  pub decodes : decoded (exec_bytes code a 15) ≡ Some (s.insn, s.len)
-  pub fetches : fetch_in code a ≡ Found s.insn s.len
-
-site_by : (code : ℕ → Option ℕ) (a : ℕ) (s : Site) (o : Option ℕ) (d : Option (Insn × ℕ)) → code a ≡ o → decoded (exec_bytes code a 15) ≡ d → site_found a (fetched o d) ≡ Some s → IsSiteAt code a s
-unfolding decoded fetch_in
-site_by code a s None d eo ed h = absurd (none-some s h)
-site_by code a s (Some b) None eo ed h = absurd (none-some s h)
-site_by code a s (Some b) (Some d) eo ed h =
-    let p = site_parts a (Found d.0 d.1) s h in
-    let bounds = first_spelled-bounds 15 1 (exec_bytes code a 15) d ed in
-    let pair : (d.0, d.1) ≡ (s.insn, s.len) = ap (λ (i : Insn). (i, d.1)) (sym p.2) ∙ ap (λ n. (s.insn, n)) (sym p.1) in
-    let dec : decoded (exec_bytes code a 15) ≡ Some (s.insn, s.len) = ed ∙ ap (λ (x : Insn × ℕ). Some x) pair in
-    record {
-      here = p.0;
-      short = omega (arith, bounds.1, p.1);
-      some = omega (arith, bounds.0, p.1);
-      starts = (b, eo);
-      decodes = dec;
-      fetches = ap (λ o. fetched o (decoded (exec_bytes code a 15))) eo ∙ ap (λ d. fetched (Some b) d) dec;
-    }
-
-pub is_site_at : (code : ℕ → Option ℕ) (a : ℕ) (s : Site) → site_at code a ≡ Some s → IsSiteAt code a s
-unfolding fetch_in
-is_site_at code a s h = site_by code a s (code a) (decoded (exec_bytes code a 15)) refl refl h
-
-abbrev after_byte : Option ℕ → List ℕ → List ℕ
-after_byte None rest = []
-after_byte (Some b) rest = b ∷ rest
-
-length-after_byte : (o : Option ℕ) (rest : List ℕ) (n : ℕ) → length rest ≤ n → length (after_byte o rest) ≤ suc n
-length-after_byte None rest n le = omega arith
-length-after_byte (Some b) rest n le = omega arith
-
-pub length-exec_bytes : (code : ℕ → Option ℕ) (n a : ℕ) → length (exec_bytes code a n) ≤ n
-unfolding exec_bytes
-length-exec_bytes code zero a = omega arith
-length-exec_bytes code (suc n) a = length-after_byte (code a) (exec_bytes code (a + 1) n) n (length-exec_bytes code n (a + 1))
-
-pub length-jump_bytes : (here to : ℕ) → length (jump_bytes here to) ≡ 5
-unfolding word
-length-jump_bytes here to = refl
-
 length-piece_of : (f : Flow) (move : ℕ → ℕ) (code : ℕ → Option ℕ) (here : ℕ) (s : Site) → s.len ≤ 15 → length (piece_of f move code here s) ≤ 15
-length-piece_of flow.Plain move code here s le = omega (arith, length-exec_bytes code s.len s.at)
-length-piece_of flow.System move code here s le = omega (arith, length-exec_bytes code s.len s.at)
-length-piece_of flow.Trap move code here s le = omega (arith, length-exec_bytes code s.len s.at)
-length-piece_of flow.Jump move code here s le = omega (arith, length-jump_bytes here (move (target s)))
+length-piece_of flow.Plain move code here s le = omega (arith, exec_short code s.len s.at)
+length-piece_of flow.System move code here s le = omega (arith, exec_short code s.len s.at)
+length-piece_of flow.Trap move code here s le = omega (arith, exec_short code s.len s.at)
+length-piece_of flow.Jump move code here s le = omega (arith, jump_len here (move (target s)))
 length-piece_of flow.Branch move code here s le = omega arith
 length-piece_of flow.Count move code here s le = omega arith
 length-piece_of flow.Call move code here s le = omega arith
@@ -111,7 +33,7 @@ length-piece_of flow.CallVia move code here s le = omega arith
 length-piece_of flow.Return move code here s le = omega arith
 
 length-join_of : (t : Bool) (here to : ℕ) → length (cond t (jump_bytes here to) []) ≤ 5
-length-join_of true here to = omega (arith, length-jump_bytes here to)
+length-join_of true here to = omega (arith, jump_len here to)
 length-join_of false here to = omega arith
 
 pub length-with_join : (move : ℕ → ℕ) (code : ℕ → Option ℕ) (here : ℕ) (s : Site) → s.len ≤ 15 → length (with_join move here s (piece move code here s)) ≤ 20
@@ -171,49 +93,54 @@ module _ (move : ℕ → ℕ) (code : ℕ → Option ℕ) where
       }
 
   -- the address is one of a list
-  slot_step : (base : ℕ) (a0 a : ℕ) (rest : List ℕ) (s : Site) (o : Option Site) → site_at code a0 ≡ o → site_at code a ≡ Some s
-      → ((base : ℕ) → (a0 ≡ a → ⊥) → HasSlot base (filter_map (site_at code) rest) a s) → HasSlot base (cons_option o (filter_map (site_at code) rest)) a s
-  slot_step base a0 a rest s None eo es later = later base (λ e. none-some s (sym eo ∙ (ap (site_at code) e ∙ es)))
+  slot_step : (base : ℕ) (a0 a : ℕ) (rest : List ℕ) (s : Site) (o : Option Site) → placed_at code a0 ≡ o → placed_at code a ≡ Some s
+      → ((base : ℕ) → (a0 ≡ a → ⊥) → HasSlot base (filter_map (placed_at code) rest) a s) → HasSlot base (cons_option o (filter_map (placed_at code) rest)) a s
+  slot_step base a0 a rest s None eo es later = later base (λ e. none-some s (sym eo ∙ (ap (placed_at code) e ∙ es)))
   slot_step base a0 a rest s (Some s0) eo es later =
       let q = is_site_at code a0 s0 eo in
       elim (cases_eq a0 a) [
         | inl e ↦
-            let same : s0 ≡ s = same_Some s0 s (sym eo ∙ (ap (site_at code) e ∙ es)) in
-            subst (λ (x : Site). HasSlot base (s0 ∷ filter_map (site_at code) rest) a x) same (first_slot base (filter_map (site_at code) rest) a s0 (q.here ∙ e) q.short)
-        | inr ne ↦ next_slot base (filter_map (site_at code) rest) a s0 s (λ e. ne (sym q.here ∙ e)) q.short (later (base + slot_len) ne)
+            let same : s0 ≡ s = same_Some s0 s (sym eo ∙ (ap (placed_at code) e ∙ es)) in
+            subst (λ (x : Site). HasSlot base (s0 ∷ filter_map (placed_at code) rest) a x) same (first_slot base (filter_map (placed_at code) rest) a s0 (q.here ∙ e) q.short)
+        | inr ne ↦ next_slot base (filter_map (placed_at code) rest) a s0 s (λ e. ne (sym q.here ∙ e)) q.short (later (base + slot_len) ne)
       ]
 
-  pub has_slot : (all : List ℕ) (base a : ℕ) (s : Site) (j : ℕ) → j < length all → get_or all j 0 ≡ a → site_at code a ≡ Some s → HasSlot base (filter_map (site_at code) all) a s
+  pub has_slot : (all : List ℕ) (base a : ℕ) (s : Site) (j : ℕ) → j < length all → get_or all j 0 ≡ a → placed_at code a ≡ Some s → HasSlot base (filter_map (placed_at code) all) a s
   has_slot [] base a s j lt at es = absurd (omega arith)
-  has_slot (a0 ∷ rest) base a s zero lt at es = slot_step base a0 a rest s (site_at code a0) refl es (λ b ne. absurd (ne at))
-  has_slot (a0 ∷ rest) base a s (suc j) lt at es = slot_step base a0 a rest s (site_at code a0) refl es (λ b ne. has_slot rest b a s j (omega arith) at es)
+  has_slot (a0 ∷ rest) base a s zero lt at es = slot_step base a0 a rest s (placed_at code a0) refl es (λ b ne. absurd (ne at))
+  has_slot (a0 ∷ rest) base a s (suc j) lt at es = slot_step base a0 a rest s (placed_at code a0) refl es (λ b ne. has_slot rest b a s j (omega arith) at es)
 
   -- an address that is no site has no entry
-  no_entry_step : (base a0 a : ℕ) (o : Option Site) (ss : List Site) → site_at code a0 ≡ o → site_at code a ≡ None → ((base : ℕ) → entry_in (places base ss) a ≡ 0) → entry_in (places base (cons_option o ss)) a ≡ 0
+  no_entry_step : (base a0 a : ℕ) (o : Option Site) (ss : List Site) → placed_at code a0 ≡ o → placed_at code a ≡ None → ((base : ℕ) → entry_in (places base ss) a ≡ 0) → entry_in (places base (cons_option o ss)) a ≡ 0
   unfolding places entry_in
   no_entry_step base a0 a None ss eo en later = later base
   no_entry_step base a0 a (Some s0) ss eo en later =
       let q = is_site_at code a0 s0 eo in
-      let ne : s0.at ≡ a → ⊥ = λ e. none-some s0 (sym en ∙ (ap (site_at code) (sym e ∙ q.here) ∙ eo)) in
+      let ne : s0.at ≡ a → ⊥ = λ e. none-some s0 (sym en ∙ (ap (placed_at code) (sym e ∙ q.here) ∙ eo)) in
       ap (λ t. cond t base (entry_in (places (base + slot_len) ss) a)) (ne_eqb s0.at a ne) ∙ later (base + slot_len)
 
-  pub no_entry : (all : List ℕ) (base a : ℕ) → site_at code a ≡ None → entry_in (places base (filter_map (site_at code) all)) a ≡ 0
+  pub no_entry : (all : List ℕ) (base a : ℕ) → placed_at code a ≡ None → entry_in (places base (filter_map (placed_at code) all)) a ≡ 0
   unfolding places entry_in
   no_entry [] base a en = refl
-  no_entry (a0 ∷ rest) base a en = no_entry_step base a0 a (site_at code a0) (filter_map (site_at code) rest) refl en (λ b. no_entry rest b a en)
+  no_entry (a0 ∷ rest) base a en = no_entry_step base a0 a (placed_at code a0) (filter_map (placed_at code) rest) refl en (λ b. no_entry rest b a en)
 
   -- the slots have 32 bytes for each site
-  slots_step : (base a0 : ℕ) (o : Option Site) (ss : List Site) → site_at code a0 ≡ o → ((base : ℕ) → length (slots move code base ss) ≡ 32 * length ss) → length (slots move code base (cons_option o ss)) ≡ 32 * length (cons_option o ss)
+  slots_step : (base a0 : ℕ) (o : Option Site) (ss : List Site) → placed_at code a0 ≡ o → ((base : ℕ) → length (slots move code base ss) ≡ 32 * length ss) → length (slots move code base (cons_option o ss)) ≡ 32 * length (cons_option o ss)
   unfolding slots
   slots_step base a0 None ss eo later = later base
   slots_step base a0 (Some s0) ss eo later =
       let q = is_site_at code a0 s0 eo in
       omega (arith, length-append (slot move code base s0) (slots move code (base + slot_len) ss), length-slot move code base s0 q.short, later (base + slot_len))
 
-  pub length-slots : (all : List ℕ) (base : ℕ) → length (slots move code base (filter_map (site_at code) all)) ≡ 32 * length (filter_map (site_at code) all)
+  length-slots : (all : List ℕ) (base : ℕ) → length (slots move code base (filter_map (placed_at code) all)) ≡ 32 * length (filter_map (placed_at code) all)
   unfolding slots
   length-slots [] base = refl
-  length-slots (a0 ∷ rest) base = slots_step base a0 (site_at code a0) (filter_map (site_at code) rest) refl (λ b. length-slots rest b)
+  length-slots (a0 ∷ rest) base = slots_step base a0 (placed_at code a0) (filter_map (placed_at code) rest) refl (λ b. length-slots rest b)
+
+-- the slots of a file's sites
+pub length-file_slots : (move : ℕ → ℕ) (b : List ℕ) (base : ℕ) → length (slots move (code_in b) base (sites b)) ≡ 32 * length (sites b)
+length-file_slots move b base =
+    subst (λ (ss : List Site). length (slots move (code_in b) base ss) ≡ 32 * length ss) (sym (sites-listed b)) (length-slots move (code_in b) (addresses (runs_of b)) base)
 
 -- an entry is at most the end of the slots
 pub entry_in-le : (ss : List Site) (base a : ℕ) → entry_in (places base ss) a ≤ base + 32 * length ss
@@ -221,34 +148,3 @@ unfolding places entry_in
 entry_in-le [] base a = omega arith
 entry_in-le (s ∷ ss) base a =
     cond_both (eqb s.at a) base (entry_in (places (base + slot_len) ss) a) (λ n. n ≤ base + 32 * length (s ∷ ss)) (λ _. omega arith) (λ _. omega (arith, entry_in-le ss (base + slot_len) a))
-
--- ---- addresses of runs
-
--- an address with a byte is among the addresses of the runs
-pub record IsAmong (all : List ℕ) (a : ℕ) : Type 0 where
-  pub place : ℕ
-  pub below : place < length all
-  pub at : get_or all place 0 ≡ a
-
-pub address_among : (rs : List Run) (a b : ℕ) → code_of rs a ≡ Some b → IsAmong (addresses rs) a
-unfolding addresses
-address_among [] a b h = absurd (none-some b h)
-address_among (r ∷ rs) a b h =
-    elim (cases_Bool (within r.lo (length r.bytes) a)) [
-      | inl w ↦
-          let p = within_parts r.lo (length r.bytes) a w in
-          let lt : a - r.lo < length r.bytes = omega (arith, p.0, p.1) in
-          let len = length-range_with_len r.lo (length r.bytes) in
-          record {
-            place = a - r.lo;
-            below = omega (arith, len, lt, length-append (run_addresses r) (addresses rs));
-            at = get_or_append_left (run_addresses r) (addresses rs) 0 (a - r.lo) (omega (arith, len, lt)) ∙ (get_or-range_with_len r.lo (length r.bytes) (a - r.lo) 0 lt ∙ omega (arith, p.0));
-          }
-      | inr w ↦
-          let q = address_among rs a b (sym (code_beyond r rs a w) ∙ h) in
-          record {
-            place = length (run_addresses r) + q.place;
-            below = omega (arith, q.below, length-append (run_addresses r) (addresses rs));
-            at = get_or-append-add (run_addresses r) (addresses rs) q.place 0 ∙ q.at;
-          }
-    ]

@@ -4,15 +4,14 @@ use Rattle.std.specs.Prelude.{IfSome}
 use Rattle.std.proofs.lemmas.List.{length-append, append_assoc, append-nil, drop_more, drop-replicate, take_rest, get_or_default}
 use Rattle.std.proofs.lemmas.Option.{slice_get_read}
 use Rattle.mv_base.specs.Memory.{exec_bytes}
-use Rattle.mv_base.specs.Bytes.{word}
 use Rattle.elf32_read.specs.declared.run.Run.{Run}
 use Rattle.elf32_read.specs.Runs.{code_of, AreApart}
 use Rattle.elf32_write.specs.Format.{filled}
-use Rattle.mv_rewrite.specs.declared.site.Site.{Site}
-use Rattle.mv_rewrite.specs.Pieces.{jump_bytes, slot, slots, with_join, piece, join}
+use Rattle.superset.specs.declared.site.Site.{Site}
+use Rattle.mv_rewrite.specs.Pieces.{slot, slots, with_join, piece, join}
 use Rattle.mv_rewrite.specs.Layout.{places}
 use Rattle.mv_rewrite.specs.Slots.{AreShort}
-use Rattle.mv_rewrite.proofs.RunSites.{exec_none, exec_some, exec_zero, exec_same, exec_run, byte_cases, code_below, code_first, code_later, outside_below, run_byte}
+use Rattle.superset.specs.RunBytes.{exec_none, exec_some, exec_zero, exec_same, exec_run, byte_cases, code_below, code_first, code_later, outside_below, run_byte}
 use Rattle.std.proofs.lemmas.Option.{slice_get_past}
 
 -- codes that agree from an address on
@@ -79,10 +78,6 @@ exec_short code (suc n) a =
       | inl e ↦ omega (arith, ap length (exec_none code a (suc n) e))
       | inr w ↦ omega (arith, ap length (exec_some code a n w.0 w.1), exec_short code n (a + 1))
     ]
-
-pub jump_length : (here to : ℕ) → length (jump_bytes here to) ≡ 5
-unfolding word
-jump_length here to = refl
 
 -- a piece, a join and zeros are a slot
 pub slot_is : (move : ℕ → ℕ) (code : ℕ → Option ℕ) (here : ℕ) (s : Site) (p j old new : List ℕ) → p ≡ piece move code here s → j ≡ join move (here + length p) s → new ≡ ((old ++ p) ++ j) ++ drop (length p + length j) (replicate 32 0) → new ≡ old ++ slot move code here s

@@ -1,4 +1,4 @@
--- What the step's table says of each flow: a trap never completes, and of the transfers a direct jump alone has a row.
+-- What the step's table says of two flows: a trap never completes, and a direct jump goes to its target and never stops.
 use Rattle.std.proofs.Common.{◌≡◌, ℕ, None, ◌+◌, ◌%◌, ◌^◌, Bool, true, false, List, [], ◌∷◌, refl, sym, ap, ◌∙◌}
 use Rattle.std.proofs.lemmas.Bool.{true≢false}
 use Rattle.mv_base.specs.Memory.{Memory}
@@ -7,7 +7,7 @@ use Rattle.x86_insn.specs.declared.insn.Insn.TheVariants as insn
 use Rattle.x86_insn.specs.declared.insn.Flow.{Flow}
 use Rattle.x86_insn.specs.declared.insn.Flow.TheVariants as flow
 use Rattle.x86_insn.specs.Flow.{flow_of}
-use Rattle.x86_insn.specs.State.{Core, State, Stop, Outside, Next, Stopped}
+use Rattle.x86_insn.specs.State.{Core, State, Stop, Next, Stopped}
 use Rattle.x86_insn.specs.Round.{Ask, Halts, Ends, round, limit, hop}
 use Rattle.x86_insn.specs.Step.{Ended, Halted, answered, asks, turn, after_turn, rounds, after_rounds, after_hop}
 
@@ -15,7 +15,7 @@ abbrev is_trap : Flow → Bool
 is_trap flow.Trap = true
 is_trap _ = false
 
-abbrev pub is_jump : Flow → Bool
+abbrev is_jump : Flow → Bool
 is_jump flow.Jump = true
 is_jump _ = false
 
@@ -27,9 +27,12 @@ trap_halts insn.Hlt c e = (_, refl)
 trap_halts insn.Ud2 c e = (_, refl)
 trap_halts _ c e = absurd (true≢false (sym (ap is_trap e)))
 
-trap_limit : (i : Insn) (c : Core) → limit i c ≡ 1
+trap_limit : (i : Insn) (c : Core) → flow_of i ≡ flow.Trap → limit i c ≡ 1
 unfolding limit
-trap_limit i c = refl
+trap_limit insn.Int3 c e = refl
+trap_limit insn.Hlt c e = refl
+trap_limit insn.Ud2 c e = refl
+trap_limit _ c e = absurd (true≢false (sym (ap is_trap e)))
 
 -- asks that begin with a stop come to it
 pub turn_halts : {E : Type 0} (m : Memory) (ask : List (List ℕ) → Ask E) (why : Stop) → ask [] ≡ Halts why → turn m ask ≡ Halted why
@@ -41,25 +44,16 @@ pub turn_ends : {E : Type 0} (m : Memory) (ask : List (List ℕ) → Ask E) (c :
 unfolding asks
 turn_ends m ask c g e = ap (answered m (λ bytes. asks 1 m ask (bytes ∷ []))) e
 
-one_round : (i : Insn) (c : Core) (m : Memory) → rounds 1 i c m ≡ after_turn (turn m (round i c)) c m (rounds 0 i)
+pub one_round : (i : Insn) (c : Core) (m : Memory) → rounds 1 i c m ≡ after_turn (turn m (round i c)) c m (rounds 0 i)
 unfolding rounds
 one_round i c m = refl
 
 pub trap_stops : (s : State) (i : Insn) (next : ℕ) → flow_of i ≡ flow.Trap → (why : Stop) × (after_rounds s next (rounds (limit i s.core) i s.core s.memory) ≡ Stopped why s)
 trap_stops s i next e =
     let h = trap_halts i s.core e in
-    let one = ap (λ n. rounds n i s.core s.memory) (trap_limit i s.core) ∙ one_round i s.core s.memory in
+    let one = ap (λ n. rounds n i s.core s.memory) (trap_limit i s.core e) ∙ one_round i s.core s.memory in
     let halted = ap (λ p. after_turn p s.core s.memory (rounds 0 i)) (turn_halts s.memory (round i s.core) h.0 h.1) in
     (h.0, ap (after_rounds s next) (one ∙ halted))
-
--- a transfer that is no direct jump has no row yet
-hop_halts : (i : Insn) (next : ℕ) (c : Core) → (flow_of i ≡ flow.Jump → ⊥) → hop next i c [] ≡ Halts Outside
-unfolding hop
-hop_halts (insn.Jump rel) next c other = absurd (other refl)
-hop_halts _ next c other = refl
-
-pub other_stops : (s : State) (i : Insn) (next : ℕ) (fl : Flow) → is_jump fl ≡ false → flow_of i ≡ fl → after_hop s (turn s.memory (hop next i s.core)) ≡ Stopped Outside s
-other_stops s i next fl other k = ap (after_hop s) (turn_halts s.memory (hop next i s.core) Outside (hop_halts i next s.core (λ j. true≢false (ap is_jump (sym j ∙ k) ∙ other))))
 
 -- an instruction of flow Jump is a direct jump
 pub is_direct : (i : Insn) → flow_of i ≡ flow.Jump → (rel : ℕ) × (i ≡ insn.Jump rel)

@@ -1,71 +1,28 @@
 -- One step of the input that is a stop: from agreeing states, the output stops alike.
-use Rattle.std.proofs.Common.{◌≡◌, ℕ, Bool, true, false, List, [], ◌∷◌, length, take, drop, nat_eq, Option, Some, None, if◌then◌else◌, nat_le, refl, sym, ap, ◌∙◌, subst, ⊎_elim, arith}
-use Rattle.std.specs.List.{AllByRecursion, starts_with}
+use Rattle.std.proofs.Common.{◌≡◌, ℕ, false, List, Option, Some, None, refl, sym, ap, ◌∙◌, subst, ⊎_elim, arith}
+use Rattle.std.specs.List.{AllByRecursion}
+use Rattle.std.specs.Option.{option_and_then}
 use Rattle.std.proofs.lemmas.Bool.{cases_Bool, cond-false}
-use Rattle.std.proofs.lemmas.Option.{none-some, cond_some}
 use Rattle.mv_base.specs.Memory.{Cell, exec_byte, exec_byte_of, exec_bytes, address_after}
 use Rattle.x86_insn.specs.declared.insn.Insn.{Insn}
 use Rattle.x86_insn.specs.declared.insn.Flow.{Flow}
 use Rattle.x86_insn.specs.declared.insn.Flow.TheVariants as flow
 use Rattle.x86_insn.specs.Flow.{flow_of}
-use Rattle.x86_insn.specs.Spelling.{Kind, MovImm, NopKind, JumpNear, SystemCall, Halt, Row, rows, meaning, decoded, spelled_from, spelled_by_row, or_else, spelled_by, spelled}
+use Rattle.x86_insn.specs.Spelling.{decoded}
 use Rattle.x86_insn.specs.State.{State, Stop, FetchFault, Trap, Outcome, Stopped}
 use Rattle.x86_insn.specs.Step.{Fetched, Absent, Found, Unknown, fetch, fetch_in, fetched, executed, stepped, step}
 use Rattle.elf32_write.specs.Frame.{Frame, frame_map, is_added}
-use Rattle.mv_rewrite.specs.Sites.{site_found, site_at, code_in}
+use Rattle.superset.specs.Sites.{site_found}
+use Rattle.mv_rewrite.specs.Sites.{if_placed, placed_at, code_in}
 use Rattle.mv_rewrite.specs.Relocated.{IsRelocated}
-use Rattle.mv_rewrite.specs.Simulation.{effects_of, effects_by_flow, IsClearEffect, IsClearStop, IsClearOutcome, IsClearStep, Agree}
+use Rattle.mv_rewrite.specs.Simulation.{effects_of, effects_by_flow, IsClearEffect, IsClearStop, IsClearOutcome, IsClearPlace, IsClearStep, Agree}
 use Rattle.mv_rewrite.proofs.Cells.{may_execute}
 use Rattle.mv_rewrite.proofs.Likeness.{Alike}
-use Rattle.mv_rewrite.proofs.DecodedAlike.{decoded_spelled}
 use Rattle.mv_rewrite.proofs.Copied.{StatesAlike}
 use Rattle.mv_rewrite.proofs.StepTable.{is_direct, jump_steps}
 use Rattle.mv_rewrite.proofs.Sound.{IsSound, alike_of}
-use Rattle.mv_rewrite.proofs.AtSite.{AtSite, MeetsAt, code_same, site_found_in, slot_stands, copied_alike}
-use Rattle.mv_rewrite.proofs.OneStep.{stopped_next}
-
--- ---- the flows that have a row
-
-abbrev pub HasRow : Flow → Type 0
-HasRow flow.Plain = Unit {0}
-HasRow flow.Jump = Unit {0}
-HasRow flow.Trap = Unit {0}
-HasRow flow.System = Unit {0}
-HasRow _ = ⊥
-
-kind_row : (k : Kind) (n imm : ℕ) → HasRow (flow_of (meaning k n imm))
-kind_row MovImm n imm = tt
-kind_row NopKind n imm = tt
-kind_row JumpNear n imm = tt
-kind_row SystemCall n imm = tt
-kind_row Halt n imm = tt
-
-from_row : (r : Row) (s : List ℕ) (i : Insn) → spelled_from r s ≡ Some i → HasRow (flow_of i)
-from_row r [] i e = absurd (none-some i e)
-from_row r (op ∷ operand) i e = let p = cond_some _ _ i e in subst (λ j. HasRow (flow_of j)) p.1 (kind_row r.kind _ _)
-
-by_row : (r : Row) (s : List ℕ) (i : Insn) → spelled_by_row r s ≡ Some i → HasRow (flow_of i)
-by_row r s i e = go (starts_with nat_eq s r.lead) e
-  where
-    go : (v : Bool) → (if v then spelled_from r (drop (length r.lead) s) else None) ≡ Some i → HasRow (flow_of i)
-    go true h = from_row r (drop (length r.lead) s) i h
-    go false h = absurd (none-some i h)
-
-by_rows : (rs : List Row) (s : List ℕ) (i : Insn) → spelled_by rs s ≡ Some i → HasRow (flow_of i)
-by_rows [] s i e = absurd (none-some i e)
-by_rows (r ∷ rs) s i e = go (by_rows rs s i) (spelled_by_row r s) refl e
-  where
-    go : (spelled_by rs s ≡ Some i → HasRow (flow_of i)) → (o : Option Insn) → spelled_by_row r s ≡ o → or_else o (spelled_by rs s) ≡ Some i → HasRow (flow_of i)
-    go rec None p h = rec h
-    go rec (Some j) p h = by_row r s i (p ∙ h)
-
-spelled_row : (s : List ℕ) (i : Insn) → spelled s ≡ Some i → HasRow (flow_of i)
-unfolding spelled
-spelled_row s i e = go (nat_le (length s) 15) e
-  where
-    go : (v : Bool) → (if v then spelled_by rows s else None) ≡ Some i → HasRow (flow_of i)
-    go true h = by_rows rows s i h
-    go false h = absurd (none-some i h)
+use Rattle.mv_rewrite.proofs.AtSite.{AtSite, MeetsAt, code_same, slot_stands, copied_alike}
+use Rattle.mv_rewrite.proofs.OneStep.{stopped_next, unplaced}
 
 -- ---- what is no instruction
 
@@ -75,10 +32,10 @@ IsNoSite Absent = Unit {0}
 IsNoSite (Found i n) = ⊥
 IsNoSite Unknown = Unit {0}
 
-no_site : (code : ℕ → Option ℕ) (a : ℕ) (r : Fetched) → IsNoSite r → fetch_in code a ≡ r → site_at code a ≡ None
-no_site code a Absent h e = ap (site_found a) e
+no_site : (code : ℕ → Option ℕ) (a : ℕ) (r : Fetched) → IsNoSite r → fetch_in code a ≡ r → placed_at code a ≡ None
+no_site code a Absent h e = ap (λ r. option_and_then if_placed (site_found a r)) e
 no_site code a (Found i n) h e = absurd h
-no_site code a Unknown h e = ap (site_found a) e
+no_site code a Unknown h e = ap (λ r. option_and_then if_placed (site_found a r)) e
 
 absent_where_none : (code : ℕ → Option ℕ) (a : ℕ) → code a ≡ None → fetch_in code a ≡ Absent
 unfolding fetch_in
@@ -125,30 +82,26 @@ module _ (b x : List ℕ) (f : Frame) (rel : IsRelocated b x f) where
       let d = is_direct i k in
       stopped_next why o' _ (sym (subst (λ j. executed o j next flow.Jump ≡ Stopped why o') d.1 e) ∙ jump_steps o next d.0)
 
-  flow_stops : (o o' t : State) (i : Insn) (n : ℕ) (why : Stop) (fl : Flow) → HasRow fl → AtSite b x f o t i n → flow_of i ≡ fl → AllByRecursion (IsClearEffect b f) (effects_by_flow fl o.answers) → IsClearStop f why → executed o i (address_after o.eip n) fl ≡ Stopped why o' → MeetsAt b x f o n (executed o i (address_after o.eip n) fl) (step t)
-  flow_stops o o' t i n why flow.Plain row s k h c st = copied_alike b x f rel o t i n flow.Plain _ tt s k h (slot_stands b x f rel o t i n flow.Plain s k) (subst (IsClearOutcome f) (sym st) c)
-  flow_stops o o' t i n why flow.System row s k h c st = copied_alike b x f rel o t i n flow.System _ tt s k h (slot_stands b x f rel o t i n flow.System s k) (subst (IsClearOutcome f) (sym st) c)
-  flow_stops o o' t i n why flow.Trap row s k h c st = copied_alike b x f rel o t i n flow.Trap _ tt s k h (slot_stands b x f rel o t i n flow.Trap s k) (subst (IsClearOutcome f) (sym st) c)
-  flow_stops o o' t i n why flow.Jump row s k h c st = jump_goes_on o o' i (address_after o.eip n) why k st
-  flow_stops o o' t i n why flow.Branch row s k h c st = absurd row
-  flow_stops o o' t i n why flow.Count row s k h c st = absurd row
-  flow_stops o o' t i n why flow.Call row s k h c st = absurd row
-  flow_stops o o' t i n why flow.JumpVia row s k h c st = absurd row
-  flow_stops o o' t i n why flow.CallVia row s k h c st = absurd row
-  flow_stops o o' t i n why flow.Return row s k h c st = absurd row
+  flow_stops : (o o' t : State) (i : Insn) (n : ℕ) (why : Stop) (fl : Flow) → AtSite b x f o t i n → flow_of i ≡ fl → AllByRecursion (IsClearEffect b f) (effects_by_flow fl o.answers) → IsClearStop f why → executed o i (address_after o.eip n) fl ≡ Stopped why o' → MeetsAt b x f o n (executed o i (address_after o.eip n) fl) (step t)
+  flow_stops o o' t i n why flow.Plain s k h c st = copied_alike b x f rel o t i n flow.Plain _ tt s k h (slot_stands b x f rel o t i n flow.Plain s k) (subst (IsClearOutcome f) (sym st) c)
+  flow_stops o o' t i n why flow.System s k h c st = copied_alike b x f rel o t i n flow.System _ tt s k h (slot_stands b x f rel o t i n flow.System s k) (subst (IsClearOutcome f) (sym st) c)
+  flow_stops o o' t i n why flow.Trap s k h c st = copied_alike b x f rel o t i n flow.Trap _ tt s k h (slot_stands b x f rel o t i n flow.Trap s k) (subst (IsClearOutcome f) (sym st) c)
+  flow_stops o o' t i n why flow.Jump s k h c st = jump_goes_on o o' i (address_after o.eip n) why k st
+  flow_stops o o' t i n why flow.Branch s k h c st = unplaced i flow.Branch refl k s.placed
+  flow_stops o o' t i n why flow.Count s k h c st = unplaced i flow.Count refl k s.placed
+  flow_stops o o' t i n why flow.Call s k h c st = unplaced i flow.Call refl k s.placed
+  flow_stops o o' t i n why flow.JumpVia s k h c st = unplaced i flow.JumpVia refl k s.placed
+  flow_stops o o' t i n why flow.CallVia s k h c st = unplaced i flow.CallVia refl k s.placed
+  flow_stops o o' t i n why flow.Return s k h c st = unplaced i flow.Return refl k s.placed
 
-  -- a site's instruction has a row
-  site_row : (o t : State) (i : Insn) (n : ℕ) → AtSite b x f o t i n → HasRow (flow_of i)
-  site_row o t i n s = spelled_row (take n (exec_bytes (code_in b) o.eip 15)) i (decoded_spelled _ i n (site_found_in b x f rel o t i n s).reads)
-
-  fetched_stops : (o o' t : State) (why : Stop) (r : Fetched) → IsSound o → StatesAlike (Alike b x f) o t → t.eip ≡ frame_map f o.eip → fetch o.memory o.eip ≡ r → AllByRecursion (IsClearEffect b f) (effects_of r o.answers) → IsClearOutcome f (stepped o r) → stepped o r ≡ Stopped why o' → StopsBy b x f o t (stepped o r) r
-  fetched_stops o o' t why Absent sound s place e h c st = miss_stops o t Absent tt s place e c
-  fetched_stops o o' t why (Found i n) sound s place e h c st =
-      let at : AtSite b x f o t i n = record { sound = sound; alike = s; place = place; found = e } in
-      flow_stops o o' t i n why (flow_of i) (site_row o t i n at) at refl h (subst (IsClearOutcome f) st c) st
-  fetched_stops o o' t why Unknown sound s place e h c st = miss_stops o t Unknown tt s place e tt
+  fetched_stops : (o o' t : State) (why : Stop) (r : Fetched) → IsSound o → StatesAlike (Alike b x f) o t → t.eip ≡ frame_map f o.eip → fetch o.memory o.eip ≡ r → IsClearPlace r → AllByRecursion (IsClearEffect b f) (effects_of r o.answers) → IsClearOutcome f (stepped o r) → stepped o r ≡ Stopped why o' → StopsBy b x f o t (stepped o r) r
+  fetched_stops o o' t why Absent sound s place e p h c st = miss_stops o t Absent tt s place e c
+  fetched_stops o o' t why (Found i n) sound s place e p h c st =
+      let at : AtSite b x f o t i n = record { sound = sound; alike = s; place = place; found = e; placed = p } in
+      flow_stops o o' t i n why (flow_of i) at refl h (subst (IsClearOutcome f) st c) st
+  fetched_stops o o' t why Unknown sound s place e p h c st = miss_stops o t Unknown tt s place e tt
 
   -- from agreeing states and a step of the input that is a stop and clear, the output stops so at its next step
   pub step_stops : (o o' t : State) (c : ℕ → ℕ) (why : Stop) → IsSound o → Agree b x f o t c → IsClearStep b f o → step o ≡ Stopped why o' → StopsBy b x f o t (step o) (fetch o.memory o.eip)
   unfolding step
-  step_stops o o' t c why sound a clear st = fetched_stops o o' t why (fetch o.memory o.eip) sound (alike_of b x f o t c sound a) a.place refl clear.effects_clear clear.stop_clear st
+  step_stops o o' t c why sound a clear st = fetched_stops o o' t why (fetch o.memory o.eip) sound (alike_of b x f o t c sound a) a.place refl clear.place_clear clear.effects_clear clear.stop_clear st

@@ -11,7 +11,7 @@ use Rattle.mv_base.specs.declared.range.RunPlace.{RunPlace}
 use Rattle.byteorder.specs.Endian.{little_bytes, little_number}
 use Rattle.elf32_read.specs.declared.run.Run.{Run}
 use Rattle.elf32_read.specs.Runs.{code_of}
-use Rattle.mv_rewrite.specs.Sites.{run_addresses, addresses}
+use Rattle.superset.specs.Sites.{run_addresses, addresses}
 use Rattle.mv_rewrite.specs.Layout.{entry_in, table, run_places}
 use Rattle.mv_rewrite.specs.Lookup.{HasWords}
 use Rattle.elf32_write.specs.Words.{words-append}

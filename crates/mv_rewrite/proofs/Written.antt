@@ -85,7 +85,7 @@ begins_with x part n len s =
     get_or-take n x i 0 below ∙ (ap (slice_index x) (let e : i ≡ 0 + i = omega arith in e) ∙ s.byte i (omega (arith, below, len)))) in
     sym (take-append-drop n x) ∙ ap (λ (l : List ℕ). l ++ drop n x) front
 
-up-le : (n : ℕ) → n ≤ up n
+pub up-le : (n : ℕ) → n ≤ up n
 up-le n = omega arith
 
 length-padded : (xs : List ℕ) → length (padded xs) ≡ up (length xs)

@@ -11,8 +11,9 @@ use Rattle.elf32_read.specs.Fields.{entry_at, segments}
 use Rattle.elf32_read.specs.Runs.{runs_of}
 use Rattle.elf32_write.specs.Format.{up, private_len}
 use Rattle.elf32_write.specs.declared.plan.Plan.{Plan}
-use Rattle.mv_rewrite.specs.declared.site.Site.{Site}
-use Rattle.mv_rewrite.specs.Sites.{code_in, addresses, sites}
+use Rattle.superset.specs.declared.site.Site.{Site}
+use Rattle.superset.specs.Sites.{addresses}
+use Rattle.mv_rewrite.specs.Sites.{code_in, sites}
 use Rattle.mv_rewrite.specs.Pieces.{slot_len, slots}
 
 -- the places of sites' slots, from an address on: pairs of a site's address and its place

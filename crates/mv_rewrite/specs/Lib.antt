@@ -1,5 +1,4 @@
 -- the definitions that this crate's contracts, and those of the crates above, cite
-pub mod Decoding
 pub mod Sites
 pub mod Pieces
 pub mod Laying

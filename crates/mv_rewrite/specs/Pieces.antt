@@ -8,7 +8,7 @@ use Rattle.x86_insn.specs.declared.insn.Flow.{Flow}
 use Rattle.x86_insn.specs.declared.insn.Flow.TheVariants.{Plain, Jump, Branch, Count, Call, JumpVia, CallVia, Return, Trap, System}
 use Rattle.x86_insn.specs.Flow.{flow_of, falls}
 use Rattle.elf32_write.specs.Format.{filled}
-use Rattle.mv_rewrite.specs.declared.site.Site.{Site}
+use Rattle.superset.specs.declared.site.Site.{Site}
 
 -- the address after a site's instruction
 abbrev pub successor : Site → ℕ
@@ -26,8 +26,8 @@ target s = target_after (successor s) s.insn
 abbrev pub jump_bytes : ℕ → ℕ → List ℕ
 jump_bytes here to = 0xE9 ∷ word (distance (address_after here 5) to)
 
--- the piece of a site that stands at an address: the site's own bytes, or a near jump to where the target now is. No
--- row of the other flows is a spelling yet, so they have no piece.
+-- the piece of a site that stands at an address: the site's own bytes, or a near jump to where the target now is. The
+-- other flows have no piece yet.
 abbrev pub piece_of : Flow → (ℕ → ℕ) → (ℕ → Option ℕ) → ℕ → Site → List ℕ
 piece_of Plain move code here s = exec_bytes code s.at s.len
 piece_of System move code here s = exec_bytes code s.at s.len

@@ -6,8 +6,8 @@ use Rattle.elf32_read.specs.Fields.{entry_at}
 use Rattle.elf32_read.specs.Faults.{load_refusal}
 use Rattle.elf32_read.specs.Load.{load}
 use Rattle.elf32_write.specs.Frame.{Frame, frame, frame_map, is_added, is_private}
-use Rattle.mv_rewrite.specs.declared.site.Site.{Site}
-use Rattle.mv_rewrite.specs.Sites.{site_at, code_in}
+use Rattle.superset.specs.declared.site.Site.{Site}
+use Rattle.mv_rewrite.specs.Sites.{placed_at, code_in}
 use Rattle.mv_rewrite.specs.Pieces.{piece, with_join}
 
 -- a cell that may not be executed
@@ -46,8 +46,8 @@ pub record IsRelocated (b x : List ℕ) (f : Frame) : Type 0 where
   pub idle : (a : ℕ) → is_private f a ≡ true → is_executable (load x) a ≡ false
   -- the input's code cannot be written
   pub unwritable : (a : ℕ) → is_executable (load b) a ≡ true → is_writable (load b) a ≡ false
-  -- each site's piece stands where the site is mapped, and any other address is mapped to itself
-  pub pieces : (a : ℕ) (s : Site) → site_at (code_in b) a ≡ Some s → PieceAt b x f s
-  pub others : (a : ℕ) → site_at (code_in b) a ≡ None → frame_map f a ≡ a
+  -- the piece of each site that has one stands where the site is mapped, and any other address is mapped to itself
+  pub pieces : (a : ℕ) (s : Site) → placed_at (code_in b) a ≡ Some s → PieceAt b x f s
+  pub others : (a : ℕ) → placed_at (code_in b) a ≡ None → frame_map f a ≡ a
   -- addresses are mapped to addresses
   pub mapped : (a : ℕ) → a < 2 ^ 32 → frame_map f a < 2 ^ 32

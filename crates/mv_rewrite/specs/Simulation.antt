@@ -16,6 +16,7 @@ use Rattle.elf32_read.specs.Fields.{entry_at}
 use Rattle.elf32_read.specs.Faults.{load_refusal}
 use Rattle.elf32_read.specs.Load.{load}
 use Rattle.elf32_write.specs.Frame.{Frame, frame, frame_map, is_added, is_private, counted_at, counter_place}
+use Rattle.superset.specs.Flows.{has_piece}
 
 -- ---- starts and runs
 
@@ -84,9 +85,16 @@ abbrev pub IsClearOutcome : Frame → Outcome → Type 0
 IsClearOutcome f (Next s) = Unit {0}
 IsClearOutcome f (Stopped why s) = IsClearStop f why
 
+-- what stands at an address is no instruction whose flow has no piece
+abbrev pub IsClearPlace : Fetched → Type 0
+IsClearPlace Absent = Unit {0}
+IsClearPlace (Found i len) = has_piece (flow_of i) ≡ true
+IsClearPlace Unknown = Unit {0}
+
 pub record IsClearStep (b : List ℕ) (f : Frame) (s : State) : Type 0 where
   pub effects_clear : AllByRecursion (IsClearEffect b f) (taken_up s)
   pub stop_clear : IsClearOutcome f (step s)
+  pub place_clear : IsClearPlace (fetch s.memory s.eip)
 
 -- the start maps no added address, and the first k steps of the input are clear; the last of them may be a stop
 pub record IsClear (b : List ℕ) (f : Frame) (s : Start) (answers : List Answer) (k : ℕ) : Type 0 where

@@ -1,42 +1,35 @@
--- Sites: the addresses at which an instruction lies wholly in executable cells. The method is after Multiverse,
--- which disassembles from every byte.
-use Rattle.std.specs.Prelude.{ℕ, List, length, Option, Some, None, IsSome}
-use Rattle.std.specs.List.{filter_map, flat_map, range_with_len}
+-- The sites that are rewritten: those whose instruction's flow has a piece. This project's own.
+use Rattle.std.specs.Prelude.{ℕ, Bool, List, Option, Some, None, if◌then◌else◌}
+use Rattle.std.specs.List.{filter}
+use Rattle.std.specs.Option.{option_and_then}
 use Rattle.mv_base.specs.Memory.{exec_byte}
-use Rattle.x86_insn.specs.Step.{Fetched, Absent, Found, Unknown, fetch_in}
+use Rattle.x86_insn.specs.Flow.{flow_of}
 use Rattle.elf32_read.specs.declared.run.Run.{Run}
 use Rattle.elf32_read.specs.Load.{load}
 use Rattle.elf32_read.specs.Runs.{runs_of}
-use Rattle.mv_rewrite.specs.declared.site.Site.{Site}
+use Rattle.superset.specs.declared.site.Site.{Site}
+use Rattle.superset.specs.Sites.{site_at, sites_in}
+use Rattle.superset.specs.Flows.{has_piece}
 
-abbrev pub site_found : ℕ → Fetched → Option Site
-site_found a Absent = None
-site_found a (Found i len) = Some (record { at = a; len = len; insn = i })
-site_found a Unknown = None
+-- a site's flow has a piece
+abbrev pub is_placed : Site → Bool
+is_placed s = has_piece (flow_of s.insn)
 
--- the site at an address of executable bytes, where there is one
-abbrev pub site_at : (ℕ → Option ℕ) → ℕ → Option Site
-site_at code a = site_found a (fetch_in code a)
+abbrev pub if_placed : Site → Option Site
+if_placed s = if is_placed s then Some s else None
+
+-- the site at an address of executable bytes, where there is one and its flow has a piece
+abbrev pub placed_at : (ℕ → Option ℕ) → ℕ → Option Site
+placed_at code a = option_and_then if_placed (site_at code a)
+
+-- the sites among the addresses of runs, without those whose flow has no piece
+unfoldable pub placed_in : (ℕ → Option ℕ) → List Run → List Site
+placed_in code rs = filter is_placed (sites_in code rs)
 
 -- the executable bytes of a file's memory
 abbrev pub code_in : List ℕ → ℕ → Option ℕ
 code_in b a = exec_byte (load b) a
 
--- an address is a site of a file
-abbrev pub IsSite : List ℕ → ℕ → Type 0
-IsSite b a = IsSome (site_at (code_in b) a)
-
-abbrev pub run_addresses : Run → List ℕ
-run_addresses r = range_with_len r.lo (length r.bytes)
-
--- the addresses of runs, one after the other
-unfoldable pub addresses : List Run → List ℕ
-addresses rs = flat_map run_addresses rs
-
--- the sites among the addresses of runs
-unfoldable pub sites_in : (ℕ → Option ℕ) → List Run → List Site
-sites_in code rs = filter_map (site_at code) (addresses rs)
-
--- the sites of a file, ascending
+-- the sites of a file whose flow has a piece, ascending
 unfoldable pub sites : List ℕ → List Site
-sites b = sites_in (code_in b) (runs_of b)
+sites b = placed_in (code_in b) (runs_of b)

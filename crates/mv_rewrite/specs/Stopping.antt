@@ -7,8 +7,8 @@ use Rattle.mv_base.specs.Effects.{Answer, IsAnswer}
 use Rattle.x86_insn.specs.State.{State, FetchFault, Stop, Trap, Outside, Stopped}
 use Rattle.x86_insn.specs.Step.{step}
 use Rattle.elf32_write.specs.Frame.{Frame, frame, is_added, counted_at, counter_place}
-use Rattle.mv_rewrite.specs.declared.site.Site.{Site}
-use Rattle.mv_rewrite.specs.Sites.{site_at, code_in}
+use Rattle.superset.specs.declared.site.Site.{Site}
+use Rattle.mv_rewrite.specs.Sites.{placed_at, code_in}
 use Rattle.mv_rewrite.specs.Simulation.{Start, IsStart, run_state, IsClear, shown, executions, BothAre, AgreeAt, newest, IsPace, step_bound, Follows}
 
 -- ---- what is shown
@@ -41,15 +41,16 @@ QuietIn b x f s answers n = is_some (run_state b s answers n) ≡ true → IsCle
 
 -- ---- stops
 
--- at a stop at a site: the same registers, flags, calls and answers, the same memory outside the added range, and each
--- counter as before, but for that of the site, which has one more
+-- at a stop at a site that has a piece: the same registers, flags, calls and answers, the same memory outside the added
+-- range, and each counter as before, but for that of the site, which has one more
 pub record StopsSame (f : Frame) (at : ℕ) (o t : State) (c : ℕ → ℕ) : Type 0 where
   pub core : t.core ≡ o.core
   pub same : ShowsSame f o t
   pub counts : (k : ℕ) → k < f.counters → number (bytes_at t.memory (counter_place f k) 8) ≡ (c (counted_at f k) + (if counted_at f k == at then 1 else 0)) % 2 ^ 64
 
--- how the output's stop is that of the input at an address, after k steps from the agreeing state: at a site the same
--- stop; elsewhere at once, as a fetch fault at the same address, where the input's is that too or the bytes are no instruction
+-- how the output's stop is that of the input at an address, after k steps from the agreeing state: at a site that has a
+-- piece the same stop; elsewhere at once, as a fetch fault at the same address, where the input's is that too or the
+-- bytes are no instruction
 abbrev pub StopsAs : Option Site → Frame → ℕ → ℕ → Stop → State → Stop → State → (ℕ → ℕ) → Type 0
 StopsAs (Some site) f k at why o why' t c = (why' ≡ why) × StopsSame f at o t c
 StopsAs None f k at why o why' t c = (k ≡ 0) × (why' ≡ Trap FetchFault at) × ((why ≡ Trap FetchFault at) ⊎ (why ≡ Outside))
@@ -64,7 +65,7 @@ pub record StopsAfter (b x : List ℕ) (f : Frame) (s : Start) (answers : List A
   pub why_there : Stop
   pub last_there : State
   pub stops : step state ≡ Stopped why_there last_there
-  pub alike : StopsAs (site_at (code_in b) o.eip) f more o.eip why last why_there last_there (executions (run_state b s answers) n)
+  pub alike : StopsAs (placed_at (code_in b) o.eip) f more o.eip why last why_there last_there (executions (run_state b s answers) n)
   pub still : (m : ℕ) → newest way.pace ≤ m → m ≤ newest way.pace + more → ShowsAt b x f s answers n m
 
 abbrev pub StopsIn : List ℕ → List ℕ → Frame → Start → List Answer → ℕ → Type 0

@@ -3,7 +3,7 @@
 ghost use Rattle.std.specs.Prelude.{◌≡◌, ℕ, ◌+◌, ◌*◌, ◌^◌, ◌<◌, ◌≤◌, ◌++◌, length, map, IfOk, OnOk};
 ghost use Rattle.mv_base.specs.Bytes.{word as word_of, words};
 ghost use Rattle.elf32_read.specs.Runs.{AreApart};
-ghost use Rattle.mv_rewrite.specs.Sites.{addresses, run_addresses};
+ghost use Rattle.superset.specs.Sites.{addresses, run_addresses};
 ghost use Rattle.mv_rewrite.specs.Layout.{entry_in, run_places, table as table_of};
 ghost use Rattle.mv_rewrite.specs.Lookup.{Ascend};
 

@@ -11,13 +11,13 @@ ghost use Rattle.mv_rewrite.specs.Sites.{sites as sites_of};
 
 use crate::entries::address_count;
 use crate::room::first_fit;
-use crate::site::Site;
 use crate::slots::{SLOT_LEN, places, slots};
 use crate::table::AddressTable;
 use elf32_read::{Image, Run};
 use elf32_write::Plan;
 use mv_base::{Addrs, Bytes, NoMemory};
 use std::alloc::Global;
+use superset::Site;
 use thiserror::Error;
 
 /// How many bytes the private area has without counters.

@@ -1,78 +1,13 @@
 //! Pieces: the code that stands for a site.
 
-ghost use Rattle.std.specs.Prelude.{◌≡◌, ◌≤◌, ◌↔◌, IsTrue, [], length, take};
+ghost use Rattle.std.specs.Prelude.{◌≡◌, ◌≤◌, [], length};
 ghost use Rattle.x86_insn.specs.Flow.{flow_of};
 ghost use Rattle.x86_insn.specs.declared.insn.Flow.TheVariants.{Jump};
 ghost use Rattle.mv_rewrite.specs.Pieces.{jump_bytes, successor as successor_of, target as target_of};
 
-use crate::site::Site;
 use byteorder::{ByteOrder, LittleEndian};
-use std::marker::Model;
+use superset::{Piece, Site};
 use x86_insn::Insn;
-
-/// How many bytes a piece can have.
-const PIECE_ROOM: usize = 96;
-
-/// The bytes of a piece, at most 96.
-#[derive(Drop)]
-pub struct Piece {
-    bytes: [u8; 96],
-    len: usize,
-}
-
-impl Model for Piece {
-    ghost use Rattle.std.specs.Prelude.{ℕ, List, take, ◌≤◌};
-
-    ghost Value = { List ℕ };
-
-    ghost view = { λ p. take p.len p.bytes };
-
-    ghost invariant = { λ p. p.len ≤ 96 };
-}
-
-impl Piece {
-    /// A piece of at most 96 bytes.
-    fn new(bytes: &[u8]) -> Piece
-        requires { length bytes.now ≤ 96 }
-        ensures { result ≡ bytes.now }
-    {
-        Piece {
-            bytes: in_room(bytes),
-            len: bytes.len(),
-        }
-    }
-
-    /// The bytes as a slice.
-    pub fn as_slice(&self) -> &[u8]
-        ensures { result.now ≡ self.now }
-    {
-        &self.bytes[..self.len]
-    }
-
-    /// How many bytes there are.
-    pub fn len(&self) -> usize
-        ensures { result ≡ length self.now }
-    {
-        self.len
-    }
-
-    /// Whether there is no byte.
-    pub fn is_empty(&self) -> bool
-        ensures { IsTrue result ↔ (self.now ≡ []) }
-    {
-        self.len == 0
-    }
-}
-
-/// The bytes in front of zeros.
-fn in_room(bytes: &[u8]) -> [u8; 96]
-    requires { length bytes.now ≤ 96 }
-    ensures { take (length bytes.now) result ≡ bytes.now }
-{
-    let mut room = [0; PIECE_ROOM];
-    room[..bytes.len()].copy_from_slice(bytes);
-    room
-}
 
 /// The piece of an instruction that is copied: its own bytes, at most 15.
 pub fn copy_piece(bytes: &[u8]) -> Piece

@@ -11,7 +11,7 @@ ghost use Rattle.mv_rewrite.specs.Rewriting.{IsRewritten};
 ghost use Rattle.mv_rewrite.specs.Stopping.{Simulates};
 
 use crate::layout::{LayFault, lay};
-use crate::sites::sites;
+use crate::placed::placed_sites;
 use elf32_read::{Image, ImageFault, ReadImage, admit, read_image, runs};
 use elf32_write::{Plan, added_len, write_image};
 use mv_base::{NoMemory, Range};
@@ -20,7 +20,7 @@ use std::alloc::Global;
 /// How many bytes a file that is read may have: 64 MiB.
 pub const FILE_LIMIT: usize = 67_108_864;
 
-/// An output file, how many sites its input has, the addresses that it adds, and how many counters it has.
+/// An output file, how many sites of its input have a piece, the addresses that it adds, and how many counters it has.
 #[derive(Drop)]
 pub struct Rewritten {
     pub bytes: Vec<u8>,
@@ -103,7 +103,7 @@ fn rewrite_admitted(alloc: Global, image: &Image, bytes: &[u8]) -> Result<Rewrit
     ensures { IsRewritten bytes.now result }
 {
     let runs = runs(alloc, image, bytes)?;
-    let sites = sites(alloc, &runs)?;
+    let sites = placed_sites(alloc, &runs)?;
     let plan = lay(alloc, image, bytes, &runs, &sites)?;
     let file = write_image(alloc, image, bytes, &plan)?;
     Ok(Rewritten {

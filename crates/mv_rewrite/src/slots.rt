@@ -8,12 +8,12 @@ ghost use Rattle.mv_rewrite.specs.Lookup.{HasWords, table_move};
 ghost use Rattle.mv_rewrite.specs.Pieces.{piece as piece_of, join as join_of, slot, slots as slots_of};
 ghost use Rattle.mv_rewrite.specs.Slots.{AreShort};
 
-use crate::pieces::{Piece, copy_piece, join_piece, jump_piece, no_piece, successor, target};
-use crate::site::Site;
+use crate::pieces::{copy_piece, join_piece, jump_piece, no_piece, successor, target};
 use crate::table::AddressTable;
 use elf32_read::Run;
 use mv_base::NoMemory;
 use std::alloc::Global;
+use superset::{Piece, Site};
 use x86_insn::Flow;
 
 /// How many bytes a slot has.

@@ -4,7 +4,7 @@
 ghost use Rattle.std.specs.Prelude.{◌≡◌, ◌+◌, ◌*◌, ◌^◌, ◌<◌, length, IfOk};
 ghost use Rattle.mv_base.specs.Table.{run_of};
 ghost use Rattle.elf32_read.specs.Runs.{AreApart};
-ghost use Rattle.mv_rewrite.specs.Sites.{addresses};
+ghost use Rattle.superset.specs.Sites.{addresses};
 
 use crate::entries::{place_runs, table_bytes};
 use elf32_read::Run;

@@ -1,4 +1,5 @@
-//! Files that are rewritten: how many sites they have and where the added block lies, or that no place has room.
+//! Files that are rewritten: how many sites they have, which are placed, and where the added block lies, or that no
+//! place has room.
 
 ghost use Rattle.std.specs.Prelude.{◌≤◌, length};
 
@@ -55,6 +56,27 @@ fn counts(alloc: Global, file: &[u8]) -> Option<(u32, u32)>
     let output = rewritten(alloc, file).ok()?;
     let frame = read_frame(&output.bytes)?;
     Some((output.sites, frame.run_count()))
+}
+
+/// Where a file's output maps an address; `None` where the file isn't rewritten.
+fn mapped(alloc: Global, file: &[u8], address: u32) -> Option<u32>
+    requires { length file.now ≤ FILE_LIMIT }
+{
+    let output = rewritten(alloc, file).ok()?;
+    Some(read_frame(&output.bytes)?.map(address))
+}
+
+#[test]
+fn places_no_site_without_a_piece(rt: HostRuntime) {
+    // `nop`, `ret`, `hlt`: a return has no piece.
+    let file = edited(
+        FILE,
+        [(68, 3), (72, 3), (116, 0x90), (117, 0xC3), (118, 0xF4)],
+    );
+    assert_eq!(rt; counts(rt.alloc(), &file), Some((2, 1)));
+    assert_eq!(rt; mapped(rt.alloc(), &file, 0x0804_8074), Some(0x0010_0000));
+    assert_eq!(rt; mapped(rt.alloc(), &file, 0x0804_8075), Some(0x0804_8075));
+    assert_eq!(rt; mapped(rt.alloc(), &file, 0x0804_8076), Some(0x0010_0020));
 }
 
 #[test]

@@ -1,5 +1,5 @@
 use Rattle.std.proofs.Common.{sym, arith}
-use Rattle.mv_rewrite.proofs.RunSites.{apart_ends}
+use Rattle.superset.specs.RunBytes.{apart_ends}
 use Rattle.mv_rewrite.proofs.RunOrder.{length-nil, length_more, length_within, apart_before}
 use Rattle.mv_rewrite.proofs.entries.address_count.Goals as goal
 

@@ -1,5 +1,5 @@
 use Rattle.std.proofs.Common.{◌≡◌, length, take}
-use Rattle.mv_rewrite.specs.Sites.{addresses}
+use Rattle.superset.specs.Sites.{addresses}
 use Rattle.mv_rewrite.proofs.entries.address_count.Given as goal
 
 abbrev pub invariant-loop-run : goal.invariant-loop-run

@@ -1,5 +1,5 @@
 use Rattle.std.proofs.Common.{◌+◌, ◌∙◌, sym, arith}
-use Rattle.mv_rewrite.proofs.RunSites.{apart_ends}
+use Rattle.superset.specs.RunBytes.{apart_ends}
 use Rattle.mv_rewrite.proofs.RunOrder.{length-nil, length_more, length_part, places_step, places_none}
 use Rattle.mv_rewrite.proofs.entries.place_runs.Goals as goal
 

@@ -1,5 +1,5 @@
 use Rattle.std.proofs.Common.{◌≡◌, ◌+◌, ◌*◌, length, take}
-use Rattle.mv_rewrite.specs.Sites.{addresses}
+use Rattle.superset.specs.Sites.{addresses}
 use Rattle.mv_rewrite.specs.Layout.{run_places}
 use Rattle.mv_rewrite.proofs.entries.place_runs.Given as goal
 

@@ -1,5 +1,5 @@
 use Rattle.std.proofs.Common.{◌∙◌, sym, refl, arith}
-use Rattle.mv_rewrite.proofs.RunSites.{apart_ends}
+use Rattle.superset.specs.RunBytes.{apart_ends}
 use Rattle.mv_rewrite.proofs.RunOrder.{table_none, table_step, after_more, apart_before}
 use Rattle.mv_rewrite.proofs.entries.table_bytes.Goals as goal
 

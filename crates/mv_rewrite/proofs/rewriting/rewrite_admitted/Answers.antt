@@ -1,7 +1,7 @@
 use Rattle.std.proofs.Common.{ℕ, List, length, Some, refl, arith, sym, ap, ◌∙◌}
 use Rattle.std.proofs.lemmas.Result.{err_from_is_err_and}
 use Rattle.mv_base.specs.Span.{Span}
-use Rattle.mv_rewrite.specs.declared.site.Site.{Site}
+use Rattle.superset.specs.declared.site.Site.{Site}
 use Rattle.mv_rewrite.proofs.Assembled.{ends_low, few_runs, laid_passes, no_refusal, few_headers, output_is, sites_are}
 use Rattle.mv_rewrite.proofs.LayoutFacts.{lay_facts}
 use Rattle.mv_rewrite.proofs.rewriting.rewrite_admitted.Goals as goal

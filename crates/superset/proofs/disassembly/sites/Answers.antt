@@ -1,0 +1,24 @@
+use Rattle.std.proofs.Common.{◌≡◌, ℕ, ◌≤◌, List, length, take, ◌∙◌, ap, sym, subst, arith}
+use Rattle.std.specs.List.{flat_map}
+use Rattle.std.proofs.lemmas.List.{take_all}
+use Rattle.superset.proofs.RunSites.{run_sites, sites_split}
+use Rattle.superset.specs.RunBytes.{apart_ends}
+use Rattle.elf32_read.specs.declared.run.Run.{Run}
+use Rattle.elf32_read.specs.Runs.{code_of, AreApart}
+use Rattle.superset.specs.declared.site.Site.{Site}
+use Rattle.superset.specs.Sites.{sites_in, AreSites}
+use Rattle.superset.proofs.AllSites.{are_sites}
+use Rattle.superset.proofs.disassembly.sites.Goals as goal
+
+pub add_sites-requires : goal.add_sites-requires
+add_sites-requires c = apart_ends 0 c.args.runs.now c.requires c.loop-run.run-index c.run-item.result (omega arith) c.run-item.is
+
+are : (runs : List Run) (k : ℕ) (found : List Site) → AreApart 0 runs → length runs ≤ k → found ≡ flat_map run_sites (take k runs) → found ≡ sites_in (code_of runs) runs
+are runs k found apart le e = e ∙ ap (flat_map run_sites) (take_all k runs le) ∙ sym (sites_split runs apart)
+
+pub returns-clause-listed : goal.returns-clause-listed
+returns-clause-listed c = are c.args.runs.now c.loop-run.run-index c.loop-run.found.items c.requires (omega arith) c.loop-run.invariant
+
+pub returns-clause-exact : goal.returns-clause-exact
+returns-clause-exact c =
+    subst (AreSites (code_of c.args.runs.now)) (sym (are c.args.runs.now c.loop-run.run-index c.loop-run.found.items c.requires (omega arith) c.loop-run.invariant)) (are_sites c.args.runs.now c.requires)

@@ -1,0 +1,65 @@
+//! Superset disassembly: decoding at every byte of the runs.
+
+ghost use Rattle.std.specs.Prelude.{◌≡◌, ◌+◌, ◌<◌, ◌≤◌, [], ◌∷◌, ◌++◌, length, IfOk, OnOk};
+ghost use Rattle.elf32_read.specs.Runs.{code_of, AreApart};
+ghost use Rattle.superset.specs.Sites.{site_at, sites_in, AreSites};
+
+use crate::site::Site;
+use elf32_read::Run;
+use mv_base::NoMemory;
+use std::alloc::Global;
+use x86_decode::{Decoded, decode};
+
+/// How many bytes an instruction has at most.
+const LONGEST: usize = 15;
+
+/// All sites of the runs, ascending: the addresses at which an instruction lies wholly in the runs' bytes. It decodes
+/// once at each address, and looks at no more than 15 bytes there. The runs ascend with a gap between any two, and end
+/// at most at 0xFFFFF000.
+///
+/// # Errors
+///
+/// `NoMemory`.
+pub fn sites(alloc: Global, runs: &[Run]) -> Result<Vec<Site>, NoMemory>
+    requires { AreApart 0 runs.now }
+    ensures listed { IfOk result (λ found. found.items ≡ sites_in (code_of runs.now) runs.now) }
+    ensures exact { IfOk result (λ found. AreSites (code_of runs.now) found.items) }
+{
+    let mut found = Vec::new(alloc);
+    for run in runs {
+        add_sites(run, &mut found)?;
+    }
+    Ok(found)
+}
+
+/// Appends the sites of a run.
+fn add_sites(run: &Run, found: &mut Vec<Site>) -> Result<(), NoMemory>
+    requires { run.now.lo + length run.now.bytes ≤ 0xFFFFF000 }
+    ensures { OnOk result
+        (found.new.items ≡ found.old.items ++ sites_in (code_of (run.now ∷ [])) (run.now ∷ [])) }
+{
+    for offset in 0..run.bytes.len() {
+        if let Some(site) = site_in(run, offset) {
+            found.push(site)?;
+        }
+    }
+    Ok(())
+}
+
+/// The site at an offset of a run, where there is one.
+fn site_in(run: &Run, offset: usize) -> Option<Site>
+    requires within { offset < length run.now.bytes }
+    requires ends { run.now.lo + length run.now.bytes ≤ 0xFFFFF000 }
+    ensures { result ≡ site_at (code_of (run.now ∷ [])) (run.now.lo + offset) }
+{
+    let tail = &run.bytes.as_slice()[offset..];
+    match decode(&tail[..LONGEST.min(tail.len())]) {
+        Decoded::Insn { insn, len } => Some(Site {
+            at: run.lo + offset as u32,
+            len,
+            insn,
+        }),
+        Decoded::Short => None,
+        Decoded::Unknown => None,
+    }
+}

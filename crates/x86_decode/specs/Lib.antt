@@ -1,0 +1,5 @@
+-- the definitions that this crate's contracts, and those of the crates above, cite
+pub mod Decoding
+-- what holds of them, for the proofs of this crate and of the crates above
+pub mod Spellings
+pub mod Laws
