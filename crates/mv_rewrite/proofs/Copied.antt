@@ -9,8 +9,14 @@ use Rattle.mv_base.specs.Effects as effects
 use Rattle.x86_insn.specs.declared.insn.Insn.{Insn}
 use Rattle.x86_insn.specs.declared.insn.Flow.{Flow}
 use Rattle.x86_insn.specs.declared.insn.Flow.TheVariants as flow
-use Rattle.x86_insn.specs.State.{Core, State, Kind, ReadFault, WriteFault, Trap, Outside, Outcome, Next, Stopped}
-use Rattle.x86_insn.specs.Round.{Ask, Reads, Halts, Ends, round, limit}
+use Rattle.x86_insn.specs.State.{State, Outcome, Next, Stopped}
+use Rattle.x86_insn.specs.declared.registers.Core.{Core}
+use Rattle.x86_insn.specs.declared.stop.Kind.{Kind}
+use Rattle.x86_insn.specs.declared.stop.Kind.TheVariants.{ReadFault, WriteFault}
+use Rattle.x86_insn.specs.declared.stop.Stop.TheVariants.{Trap, Outside}
+use Rattle.x86_insn.specs.Round.{round, limit}
+use Rattle.x86_insn.specs.declared.ask.Ask.{Ask}
+use Rattle.x86_insn.specs.declared.ask.Ask.TheVariants.{Reads, Halts, Ends}
 use Rattle.x86_insn.specs.Step.{Turn, Ended, Halted, unless_fault, answered, asks, turn, Rounds, Completed, Broken, after_turn, rounds, after_rounds, call_of, refused, after_effects, system, executed}
 use Rattle.elf32_read.specs.Load.{load}
 use Rattle.elf32_write.specs.Frame.{Frame, is_added}

@@ -15,8 +15,10 @@ use Rattle.x86_insn.specs.declared.insn.Src.TheVariants as src
 use Rattle.x86_insn.specs.declared.insn.Width.TheVariants.{D}
 use Rattle.x86_insn.specs.Flow.{flow_of}
 use Rattle.x86_insn.specs.Spelling.{spelled, decoded}
-use Rattle.x86_insn.specs.State.{Core, State, Next}
-use Rattle.x86_insn.specs.Round.{Ends, round, limit}
+use Rattle.x86_insn.specs.State.{State, Next}
+use Rattle.x86_insn.specs.declared.registers.Core.{Core}
+use Rattle.x86_insn.specs.Round.{round, limit}
+use Rattle.x86_insn.specs.declared.ask.Ask.TheVariants.{Ends}
 use Rattle.x86_insn.specs.Step.{Found, fetch, after_turn, rounds, after_rounds, executed, step}
 use Rattle.x86_insn.specs.Run.{state_after}
 use Rattle.x86_decode.specs.Laws.{decoded_by_front}

@@ -10,7 +10,8 @@ use Rattle.x86_insn.specs.declared.insn.Insn.TheVariants as insn
 use Rattle.x86_insn.specs.declared.insn.Flow.{Flow}
 use Rattle.x86_insn.specs.declared.insn.Flow.TheVariants as flow
 use Rattle.x86_insn.specs.Flow.{flow_of}
-use Rattle.x86_insn.specs.State.{State, Stop, Outcome, Next, Stopped}
+use Rattle.x86_insn.specs.State.{State, Outcome, Next, Stopped}
+use Rattle.x86_insn.specs.declared.stop.Stop.{Stop}
 use Rattle.x86_insn.specs.Step.{Fetched, Absent, Found, Unknown, fetch, executed, stepped, step}
 use Rattle.x86_insn.specs.Run.{next_of, next_state, state_after}
 use Rattle.elf32_write.specs.Frame.{Frame, frame_map}

@@ -4,7 +4,10 @@ use Rattle.std.specs.List.{AllByRecursion}
 use Rattle.std.specs.Option.{option_and_then}
 use Rattle.std.proofs.lemmas.Option.{same_Some}
 use Rattle.mv_base.specs.Effects.{Answer, IsAnswer}
-use Rattle.x86_insn.specs.State.{State, Stop, FetchFault, Trap, Outside, Outcome, Next, Stopped}
+use Rattle.x86_insn.specs.State.{State, Outcome, Next, Stopped}
+use Rattle.x86_insn.specs.declared.stop.Stop.{Stop}
+use Rattle.x86_insn.specs.declared.stop.Kind.TheVariants.{FetchFault}
+use Rattle.x86_insn.specs.declared.stop.Stop.TheVariants.{Trap, Outside}
 use Rattle.x86_insn.specs.Step.{Fetched, Absent, Found, Unknown, fetch, stepped, step}
 use Rattle.elf32_write.specs.Frame.{Frame, frame}
 use Rattle.superset.specs.declared.site.Site.{Site}

@@ -7,8 +7,12 @@ use Rattle.x86_insn.specs.declared.insn.Insn.TheVariants as insn
 use Rattle.x86_insn.specs.declared.insn.Flow.{Flow}
 use Rattle.x86_insn.specs.declared.insn.Flow.TheVariants as flow
 use Rattle.x86_insn.specs.Flow.{flow_of}
-use Rattle.x86_insn.specs.State.{Core, State, Stop, Next, Stopped}
-use Rattle.x86_insn.specs.Round.{Ask, Halts, Ends, round, limit, hop}
+use Rattle.x86_insn.specs.State.{State, Next, Stopped}
+use Rattle.x86_insn.specs.declared.registers.Core.{Core}
+use Rattle.x86_insn.specs.declared.stop.Stop.{Stop}
+use Rattle.x86_insn.specs.Round.{round, limit, hop}
+use Rattle.x86_insn.specs.declared.ask.Ask.{Ask}
+use Rattle.x86_insn.specs.declared.ask.Ask.TheVariants.{Halts, Ends}
 use Rattle.x86_insn.specs.Step.{Ended, Halted, answered, asks, turn, after_turn, rounds, after_rounds, after_hop}
 
 abbrev is_trap : Flow → Bool

@@ -9,7 +9,10 @@ use Rattle.x86_insn.specs.declared.insn.Flow.{Flow}
 use Rattle.x86_insn.specs.declared.insn.Flow.TheVariants as flow
 use Rattle.x86_insn.specs.Flow.{flow_of}
 use Rattle.x86_insn.specs.Spelling.{decoded}
-use Rattle.x86_insn.specs.State.{State, Stop, FetchFault, Trap, Outcome, Stopped}
+use Rattle.x86_insn.specs.State.{State, Outcome, Stopped}
+use Rattle.x86_insn.specs.declared.stop.Stop.{Stop}
+use Rattle.x86_insn.specs.declared.stop.Kind.TheVariants.{FetchFault}
+use Rattle.x86_insn.specs.declared.stop.Stop.TheVariants.{Trap}
 use Rattle.x86_insn.specs.Step.{Fetched, Absent, Found, Unknown, fetch, fetch_in, fetched, executed, stepped, step}
 use Rattle.elf32_write.specs.Frame.{Frame, frame_map, is_added}
 use Rattle.superset.specs.Sites.{site_found}

@@ -9,7 +9,10 @@ use Rattle.mv_base.specs.Effects as effects
 use Rattle.x86_insn.specs.declared.insn.Flow.{Flow}
 use Rattle.x86_insn.specs.declared.insn.Flow.TheVariants as flow
 use Rattle.x86_insn.specs.Flow.{flow_of}
-use Rattle.x86_insn.specs.State.{Core, IsCore, State, Stop, Trap, Outside, NoAnswer, BadAnswer, Gone, Outcome, Next, Stopped}
+use Rattle.x86_insn.specs.State.{IsCore, State, Outcome, Next, Stopped}
+use Rattle.x86_insn.specs.declared.registers.Core.{Core}
+use Rattle.x86_insn.specs.declared.stop.Stop.{Stop}
+use Rattle.x86_insn.specs.declared.stop.Stop.TheVariants.{Trap, Outside, NoAnswer, BadAnswer, Gone}
 use Rattle.x86_insn.specs.Step.{Fetched, Absent, Found, Unknown, fetch, step}
 use Rattle.x86_insn.specs.Run.{state_after}
 use Rattle.elf32_read.specs.Fields.{entry_at}

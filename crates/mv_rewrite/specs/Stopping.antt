@@ -4,7 +4,10 @@ use Rattle.std.specs.List.{AllByRecursion}
 use Rattle.mv_base.specs.Bytes.{number}
 use Rattle.mv_base.specs.Memory.{bytes_at}
 use Rattle.mv_base.specs.Effects.{Answer, IsAnswer}
-use Rattle.x86_insn.specs.State.{State, FetchFault, Stop, Trap, Outside, Stopped}
+use Rattle.x86_insn.specs.State.{State, Stopped}
+use Rattle.x86_insn.specs.declared.stop.Kind.TheVariants.{FetchFault}
+use Rattle.x86_insn.specs.declared.stop.Stop.{Stop}
+use Rattle.x86_insn.specs.declared.stop.Stop.TheVariants.{Trap, Outside}
 use Rattle.x86_insn.specs.Step.{step}
 use Rattle.elf32_write.specs.Frame.{Frame, frame, is_added, counted_at, counter_place}
 use Rattle.superset.specs.declared.site.Site.{Site}
