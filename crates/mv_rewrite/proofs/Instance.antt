@@ -17,6 +17,7 @@ use Rattle.x86_insn.specs.Flow.{flow_of}
 use Rattle.x86_insn.specs.Spelling.{spelled, decoded}
 use Rattle.x86_insn.specs.State.{State, Next}
 use Rattle.x86_insn.specs.declared.registers.Core.{Core}
+use Rattle.x86_insn.specs.Ask.{got_src}
 use Rattle.x86_insn.specs.Round.{round, limit}
 use Rattle.x86_insn.specs.declared.ask.Ask.TheVariants.{Ends}
 use Rattle.x86_insn.specs.Step.{Found, fetch, after_turn, rounds, after_rounds, executed, step}
@@ -129,11 +130,11 @@ last = record (state_at 0x08048060 (core_of 5 7)) { answers = []; calls = (1 ∷
 
 -- a move of a number to a register is one round
 first_round : (limit (Mov D (rm.R Eax) (src.Imm 1)) (core_of 0 0) ≡ 1) × (round (Mov D (rm.R Eax) (src.Imm 1)) (core_of 0 0) [] ≡ Ends (core_of 1 0) None false)
-unfolding limit round
+unfolding limit round got_src
 first_round = (refl, refl)
 
 second_round : (limit (Mov D (rm.R Ebx) (src.Imm 7)) (core_of 1 0) ≡ 1) × (round (Mov D (rm.R Ebx) (src.Imm 7)) (core_of 1 0) [] ≡ Ends (core_of 1 7) None false)
-unfolding limit round
+unfolding limit round got_src
 second_round = (refl, refl)
 
 moves : (s : State) (i : Insn) (n : ℕ) (c : Core) → fetch s.memory s.eip ≡ Found i n → flow_of i ≡ flow.Plain → (limit i s.core ≡ 1) × (round i s.core [] ≡ Ends c None false) → step s ≡ Next (record s { core = c; eip = address_after s.eip n })

@@ -1,2 +1,3 @@
 -- lemmas that the proofs of this crate share
 pub mod Rounding
+pub mod Fetched

@@ -1,1 +1,2 @@
 pub mod TurnResults
+pub mod Machines

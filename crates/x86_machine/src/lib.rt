@@ -4,6 +4,7 @@
 mod arithmetic;
 mod bits;
 mod conditions;
+mod fetching;
 mod moves;
 mod operands;
 mod round;
