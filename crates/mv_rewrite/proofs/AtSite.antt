@@ -17,7 +17,8 @@ use Rattle.superset.specs.Flows.{has_piece}
 use Rattle.mv_rewrite.specs.Sites.{if_placed, placed_at, code_in}
 use Rattle.mv_rewrite.specs.Pieces.{successor, jump_bytes, piece_of}
 use Rattle.mv_rewrite.specs.Relocated.{StandAt, IsRelocated}
-use Rattle.mv_rewrite.specs.Simulation.{effects_by_flow, IsClearEffect, IsClearOutcome}
+use Rattle.x86_insn.specs.TakenUp.{effects_by_flow}
+use Rattle.mv_rewrite.specs.Simulation.{IsClearEffect, IsClearOutcome}
 use Rattle.mv_rewrite.proofs.DecodedAlike.{IsFound, is_found, found_len, found_copied}
 use Rattle.mv_rewrite.proofs.Cells.{exec_cell_byte}
 use Rattle.mv_rewrite.proofs.Likeness.{Alike}

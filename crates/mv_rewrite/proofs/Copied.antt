@@ -21,7 +21,8 @@ use Rattle.x86_insn.specs.Step.{Turn, Ended, Halted, unless_fault, answered, ask
 use Rattle.elf32_read.specs.Load.{load}
 use Rattle.elf32_write.specs.Frame.{Frame, is_added}
 use Rattle.mv_rewrite.specs.Relocated.{IsRelocated}
-use Rattle.mv_rewrite.specs.Simulation.{first_effects, effects_by_flow, IsClearEffect, IsClearStop, IsClearOutcome}
+use Rattle.x86_insn.specs.TakenUp.{first_effects, effects_by_flow}
+use Rattle.mv_rewrite.specs.Simulation.{IsClearEffect, IsClearStop, IsClearOutcome}
 use Rattle.mv_rewrite.proofs.Cells.{may_write, shown_mapped, shown_writable, exec_alike, exec_same, write_mapped, IsClearFault, first_alike, first_passes, first_begins, bytes_alike}
 use Rattle.mv_rewrite.proofs.Likeness.{Alike, IsClearWrite, put_alike}
 use Rattle.mv_rewrite.proofs.EffectsAlike.{AppliedAlike, apply_alike}

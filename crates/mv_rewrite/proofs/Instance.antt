@@ -28,7 +28,8 @@ use Rattle.elf32_read.specs.Fields.{headers, header_at, segments}
 use Rattle.elf32_read.specs.Load.{load, segment_cell}
 use Rattle.elf32_write.specs.Frame.{Frame}
 use Rattle.superset.specs.Flows.{has_piece}
-use Rattle.mv_rewrite.specs.Simulation.{Start, IsStart, begin, run_state, effects_of, effects_by_flow, IsClearEffect, IsClearOutcome, IsClearPlace, IsClearStep, IsClear}
+use Rattle.x86_insn.specs.TakenUp.{effects_of, effects_by_flow}
+use Rattle.mv_rewrite.specs.Simulation.{Start, IsStart, begin, run_state, IsClearEffect, IsClearOutcome, IsClearPlace, IsClearStep, IsClear}
 use Rattle.mv_rewrite.proofs.DecodedAlike.{from_found}
 use Rattle.mv_rewrite.proofs.OneStep.{one_more}
 use Rattle.mv_rewrite.proofs.Standing.{fetched_step}

@@ -18,7 +18,8 @@ use Rattle.elf32_write.specs.Frame.{Frame, frame_map}
 use Rattle.superset.specs.Flows.{has_piece}
 use Rattle.mv_rewrite.specs.Pieces.{jump_bytes}
 use Rattle.mv_rewrite.specs.Relocated.{StandAt, IsRelocated}
-use Rattle.mv_rewrite.specs.Simulation.{effects_of, effects_by_flow, IsClearEffect, IsClearOutcome, IsClearPlace, IsClearStep, Agree, step_bound}
+use Rattle.x86_insn.specs.TakenUp.{effects_of, effects_by_flow}
+use Rattle.mv_rewrite.specs.Simulation.{IsClearEffect, IsClearOutcome, IsClearPlace, IsClearStep, Agree, step_bound}
 use Rattle.mv_rewrite.specs.Stopping.{ShowsSame}
 use Rattle.mv_rewrite.proofs.Likeness.{Alike}
 use Rattle.mv_rewrite.proofs.Copied.{StatesAlike, IsCopied}

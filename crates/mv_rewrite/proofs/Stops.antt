@@ -18,7 +18,8 @@ use Rattle.elf32_write.specs.Frame.{Frame, frame_map, is_added}
 use Rattle.superset.specs.Sites.{site_found}
 use Rattle.mv_rewrite.specs.Sites.{if_placed, placed_at, code_in}
 use Rattle.mv_rewrite.specs.Relocated.{IsRelocated}
-use Rattle.mv_rewrite.specs.Simulation.{effects_of, effects_by_flow, IsClearEffect, IsClearStop, IsClearOutcome, IsClearPlace, IsClearStep, Agree}
+use Rattle.x86_insn.specs.TakenUp.{effects_of, effects_by_flow}
+use Rattle.mv_rewrite.specs.Simulation.{IsClearEffect, IsClearStop, IsClearOutcome, IsClearPlace, IsClearStep, Agree}
 use Rattle.mv_rewrite.proofs.Cells.{may_execute}
 use Rattle.mv_rewrite.proofs.Likeness.{Alike}
 use Rattle.mv_rewrite.proofs.Copied.{StatesAlike}

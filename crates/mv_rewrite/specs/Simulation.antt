@@ -13,6 +13,7 @@ use Rattle.x86_insn.specs.State.{IsCore, State, Outcome, Next, Stopped}
 use Rattle.x86_insn.specs.declared.registers.Core.{Core}
 use Rattle.x86_insn.specs.declared.stop.Stop.{Stop}
 use Rattle.x86_insn.specs.declared.stop.Stop.TheVariants.{Trap, Outside, NoAnswer, BadAnswer, Gone}
+use Rattle.x86_insn.specs.TakenUp.{taken_up}
 use Rattle.x86_insn.specs.Step.{Fetched, Absent, Found, Unknown, fetch, step}
 use Rattle.x86_insn.specs.Run.{state_after}
 use Rattle.elf32_read.specs.Fields.{entry_at}
@@ -44,33 +45,6 @@ abbrev pub run_state : List ℕ → Start → List Answer → ℕ → Option Sta
 run_state b s answers n = state_after n (begin b s answers)
 
 -- ---- clear steps
-
--- the effects of the answer that a system call takes up: the first one left
-abbrev pub first_effects : List Answer → List Effect
-first_effects [] = []
-first_effects (Ret eax es ∷ rest) = es
-first_effects (effects.Gone ∷ rest) = []
-
-abbrev pub effects_by_flow : Flow → List Answer → List Effect
-effects_by_flow flow.System answers = first_effects answers
-effects_by_flow flow.Plain answers = []
-effects_by_flow flow.Trap answers = []
-effects_by_flow flow.Jump answers = []
-effects_by_flow flow.Branch answers = []
-effects_by_flow flow.Count answers = []
-effects_by_flow flow.Call answers = []
-effects_by_flow flow.JumpVia answers = []
-effects_by_flow flow.CallVia answers = []
-effects_by_flow flow.Return answers = []
-
-abbrev pub effects_of : Fetched → List Answer → List Effect
-effects_of Absent answers = []
-effects_of (Found i len) answers = effects_by_flow (flow_of i) answers
-effects_of Unknown answers = []
-
--- the effects of the answer that a step takes up, whether it is refused or not
-abbrev pub taken_up : State → List Effect
-taken_up s = effects_of (fetch s.memory s.eip) s.answers
 
 -- an effect touches no added address, and no executable one of the input
 abbrev pub IsClearEffect : List ℕ → Frame → Effect → Type 0

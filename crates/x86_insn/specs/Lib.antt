@@ -16,3 +16,4 @@ pub mod Transfers
 pub mod Round
 pub mod Step
 pub mod Run
+pub mod TakenUp

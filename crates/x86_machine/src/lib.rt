@@ -3,6 +3,7 @@
 
 mod arithmetic;
 mod bits;
+mod call;
 mod conditions;
 mod fetching;
 mod moves;
