@@ -1,0 +1,39 @@
+-- Effects on a machine that maps at most 16,384 pages. This project's own.
+use Rattle.std.specs.Prelude.{◌≡◌, ℕ, Bool, true, false, List, [], ◌∷◌, ◌++◌, Option, Some, None, nat_le, if◌then◌else◌}
+use Rattle.mv_base.specs.Memory.{Memory}
+use Rattle.mv_base.specs.Effects.{Effect, Refusal, Applied, AllApplied, RefusedAt, refusal_of, applied, apply_all}
+use Rattle.proc_image.specs.Applying.{is_map}
+use Rattle.proc_image.specs.Counting.{mapped_size}
+
+-- what effects in their order come to: all are applied or one is refused, or a map would leave more pages with a mapped
+-- byte than are allowed, with their size and the memory after the effects before it
+pub data Bounded : Type 0 where
+  Within : (a : Applied) → Bounded
+  Beyond : (size : ℕ) (m : Memory) → Bounded
+
+-- a map's size is bounded
+abbrev pub map_next : ℕ → Memory → Bounded → Bounded
+map_next size m rest = if nat_le size 67108864 then rest else Beyond size m
+
+abbrev pub bounded_next : Option Refusal → Bool → ℕ → Memory → Bounded → Bounded
+bounded_next (Some why) map size m rest = Within (RefusedAt why m)
+bounded_next None true size m rest = map_next size m rest
+bounded_next None false size m rest = rest
+
+unfoldable pub apply_bounded : Memory → List Effect → Bounded
+apply_bounded m [] = Within (AllApplied m)
+apply_bounded m (e ∷ es) = bounded_next (refusal_of m e) (is_map e) (mapped_size (applied m e)) m (apply_bounded (applied m e) es)
+
+-- within the bound it is what the effects come to
+abbrev pub IsWithin : Bounded → Type 0
+IsWithin (Within a) = Unit {0}
+IsWithin (Beyond size m) = ⊥
+
+-- effects of which one maps, and the memory after those before it
+pub record WantsMemory (m : Memory) (es : List Effect) (new : Memory) : Type 0 where
+  pub before : List Effect
+  pub effect : Effect
+  pub after : List Effect
+  pub split : es ≡ before ++ effect ∷ after
+  pub maps : is_map effect ≡ true
+  pub stand : apply_all m before ≡ AllApplied new
