@@ -1,0 +1,6 @@
+-- lemmas that the proofs of this crate share
+pub mod Pages
+pub mod Reading
+pub mod Putting
+pub mod Executing
+pub mod Walking

@@ -1,0 +1,43 @@
+-- What the accesses of instructions to memory give. This project's own.
+use Rattle.std.specs.Prelude.{◌≡◌, ℕ, ◌^◌, ◌<◌, true, false, List, length, Option, Some, None, Result, Ok, Err}
+use Rattle.byteorder.specs.Endian.{little_bytes}
+use Rattle.mv_base.specs.Bytes.{number}
+use Rattle.mv_base.specs.Memory.{Memory, read_fault, write_fault, is_mapped, byte_of, bytes_at, put}
+use Rattle.x86_insn.specs.declared.insn.Width.{Width}
+use Rattle.x86_insn.specs.declared.insn.Width.TheVariants.{B, W, D}
+
+-- how many bytes an operand of this width has
+abbrev pub byte_count : Width → ℕ
+byte_count B = 1
+byte_count W = 2
+byte_count D = 4
+
+-- n bytes are mapped, the value is the number that they spell, and they are the value's bytes, which are no more
+pub record IsValueAt (m : Memory) (at n value : ℕ) : Type 0 where
+  pub mapped : read_fault m at n ≡ None
+  pub spelled : value ≡ number (bytes_at m at n)
+  pub bytes : little_bytes n value ≡ bytes_at m at n
+  pub fits : value < 256 ^ n
+
+-- a read of n bytes gives their value, or the first of them that is not mapped
+abbrev pub IsRead : Memory → ℕ → ℕ → Result ℕ ℕ → Type 0
+IsRead m at n (Ok value) = IsValueAt m at n value
+IsRead m at n (Err a) = read_fault m at n ≡ Some a
+
+-- the byte at an address, or the address where none is mapped
+abbrev pub IsByte : Memory → ℕ → Result ℕ ℕ → Type 0
+IsByte m at (Ok b) = (is_mapped m at ≡ true) × (byte_of (m at) ≡ b) × (b < 256)
+IsByte m at (Err a) = (is_mapped m at ≡ false) × (a ≡ at)
+
+-- a write of bytes puts them into memory, or gives the first address that cannot be written and changes nothing
+pub record IsPut (old : Memory) (at : ℕ) (bytes : List ℕ) (new : Memory) : Type 0 where
+  pub writable : write_fault old at (length bytes) ≡ None
+  pub put_there : new ≡ put old at bytes
+
+pub record IsUnwritable (old : Memory) (at n a : ℕ) (new : Memory) : Type 0 where
+  pub first : write_fault old at n ≡ Some a
+  pub same : new ≡ old
+
+abbrev pub IsWritten : Memory → ℕ → List ℕ → Memory → Result (Unit {0}) ℕ → Type 0
+IsWritten old at bytes new (Ok _) = IsPut old at bytes new
+IsWritten old at bytes new (Err a) = IsUnwritable old at (length bytes) a new

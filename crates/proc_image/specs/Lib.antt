@@ -1,0 +1,4 @@
+-- the definitions that this crate's contracts, and those of the crates above, cite
+pub mod Paged
+pub mod Access
+pub mod Writing

@@ -1,0 +1,134 @@
+//! Pages, and tables of them. A page or a table that isn't there is an empty one: it has no room, and nothing is mapped
+//! in it.
+
+ghost use Rattle.std.specs.Prelude.{◌≡◌, ◌<◌, ◌≤◌, ◌↔◌, ℕ, [], None, IsTrue, MatchOption, length, slice_index_or, slice_set, OnOk};
+ghost use Rattle.proc_image.specs.Paged.{IsLonger};
+
+use crate::cell::Cell;
+use mv_base::NoMemory;
+use std::alloc::Global;
+use std::marker::Model;
+
+/// How many cells a page has.
+pub const PAGE_SIZE: usize = 4_096;
+
+/// The cells of a page in their order, or none.
+#[derive(Drop)]
+pub struct Page {
+    cells: Vec<Option<Cell>>,
+}
+
+impl Model for Page {
+    ghost use Rattle.std.specs.Prelude.{List, Option};
+    ghost use Rattle.mv_base.specs.Memory.{Cell};
+
+    ghost Value = { List (Option Cell) };
+
+    ghost view = { λ p. p.cells.items };
+}
+
+impl Page {
+    /// A page that isn't there.
+    pub fn new(alloc: Global) -> Page
+        ensures { result ≡ [] }
+    {
+        Page {
+            cells: Vec::new(alloc),
+        }
+    }
+
+    /// Whether the page isn't there.
+    pub fn is_empty(&self) -> bool
+        ensures { IsTrue result ↔ (self.now ≡ []) }
+    {
+        self.cells.is_empty()
+    }
+
+    /// The cell at a place; `None` where none is mapped.
+    pub fn cell(&self, place: usize) -> Option<Cell>
+        ensures { result ≡ slice_index_or self.now place None }
+    {
+        match self.cells.get(place) {
+            Some(cell) => *cell,
+            None => None,
+        }
+    }
+
+    /// Maps a cell at a place that the page has, or with `None` takes it away.
+    pub fn set(&mut self, place: usize, cell: Option<Cell>)
+        requires { place < length self.old }
+        ensures { self.new ≡ slice_set self.old place cell }
+    {
+        self.cells[place] = cell;
+    }
+
+    /// Makes room for all cells of the page. The mapped cells stay, also where memory is wanting.
+    pub fn reserve(&mut self) -> Result<(), NoMemory>
+        ensures longer { IsLonger self.old self.new }
+        ensures room { OnOk result (4096 ≤ length self.new) }
+    {
+        if self.cells.len() < PAGE_SIZE {
+            self.cells.resize(PAGE_SIZE, None)?;
+        }
+        Ok(())
+    }
+}
+
+/// The pages of a table in their order.
+#[derive(Drop)]
+pub struct PageTable {
+    pages: Vec<Page>,
+}
+
+impl Model for PageTable {
+    ghost use Rattle.std.specs.Prelude.{List, Option};
+    ghost use Rattle.mv_base.specs.Memory.{Cell};
+
+    ghost Value = { List (List (Option Cell)) };
+
+    ghost view = { λ t. t.pages.items };
+}
+
+impl PageTable {
+    /// A table that isn't there.
+    pub fn new(alloc: Global) -> PageTable
+        ensures { result ≡ [] }
+    {
+        PageTable {
+            pages: Vec::new(alloc),
+        }
+    }
+
+    /// Whether the table isn't there.
+    pub fn is_empty(&self) -> bool
+        ensures { IsTrue result ↔ (self.now ≡ []) }
+    {
+        self.pages.is_empty()
+    }
+
+    /// The page with a number; `None` where it isn't there.
+    pub fn page(&self, number: usize) -> Option<&Page>
+        ensures { MatchOption result (slice_index_or self.now number [] ≡ []) (λ p. p.now ≡ slice_index_or self.now number []) }
+    {
+        self.pages.get(number)
+    }
+
+    /// Maps a cell at a place of a page, or with `None` takes it away. The page has the place.
+    pub fn set(&mut self, number: usize, place: usize, cell: Option<Cell>)
+        requires { place < length (slice_index_or self.old number []) }
+        ensures { self.new ≡ slice_set self.old number (slice_set (slice_index_or self.old number []) place cell) }
+    {
+        self.pages[number].set(place, cell);
+    }
+
+    /// Makes room for all cells of a page. The mapped cells stay, also where memory is wanting.
+    pub fn reserve(&mut self, alloc: Global, number: usize) -> Result<(), NoMemory>
+        ensures longer { (q : ℕ) → IsLonger (slice_index_or self.old q []) (slice_index_or self.new q []) }
+        ensures room { OnOk result (4096 ≤ length (slice_index_or self.new number [])) }
+    {
+        while self.pages.len() <= number {
+            self.pages.push(Page::new(alloc))?;
+        }
+        self.pages[number].reserve()
+    }
+}
