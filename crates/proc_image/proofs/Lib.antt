@@ -4,3 +4,7 @@ pub mod Reading
 pub mod Putting
 pub mod Executing
 pub mod Walking
+pub mod Counts
+pub mod Fills
+pub mod Fresh
+pub mod Effecting
