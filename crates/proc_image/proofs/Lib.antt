@@ -4,4 +4,8 @@ pub mod Reading
 pub mod Putting
 pub mod Executing
 pub mod Walking
+pub mod Counts
+pub mod Fills
+pub mod Fresh
+pub mod Effecting
 pub mod Copying

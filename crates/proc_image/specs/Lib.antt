@@ -2,3 +2,7 @@
 pub mod Paged
 pub mod Access
 pub mod Writing
+pub mod Counting
+pub mod Mapping
+pub mod Applying
+pub mod Loading

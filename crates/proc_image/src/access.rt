@@ -2,7 +2,7 @@
 
 ghost use Rattle.std.specs.Prelude.{◌≡◌, ◌++◌, ◌∷◌, ℕ, [], length, drop};
 ghost use Rattle.byteorder.specs.Endian.{little_bytes};
-ghost use Rattle.mv_base.specs.Memory.{put, write_fault as first_unwritable, exec_byte, exec_bytes as executable_bytes, is_writable};
+ghost use Rattle.mv_base.specs.Memory.{put, read_fault as first_unmapped, write_fault as first_unwritable, exec_byte, exec_bytes as executable_bytes, is_writable};
 ghost use Rattle.proc_image.specs.Access.{IsByte, IsRead, IsWritten, byte_count};
 ghost use Rattle.proc_image.specs.Paged.{cells};
 
@@ -75,6 +75,20 @@ impl Memory {
             Some(cell) => Ok(cell.byte()),
             None => Err(at),
         }
+    }
+
+    /// The first of `len` bytes from `at` on that isn't mapped; `None` where there is none.
+    pub(crate) fn read_fault(&self, at: u32, len: u32) -> Option<u32>
+        ensures { result ≡ first_unmapped (cells self.now) at len }
+    {
+        let mut next = at;
+        for _done in 0..len {
+            if self.cell(next).is_none() {
+                return Some(next);
+            }
+            next = next.wrapping_add(1);
+        }
+        None
     }
 
     /// The first of `len` bytes from `at` on that isn't mapped or can't be written; `None` where there is none.

@@ -1,6 +1,6 @@
 //! Memory as pages.
 
-ghost use Rattle.std.specs.Prelude.{◌≡◌, ◌/◌, ◌%◌, ◌<◌, ◌≤◌, ℕ, [], None, MatchOption, length, OnOk};
+ghost use Rattle.std.specs.Prelude.{◌≡◌, ◌/◌, ◌%◌, ◌<◌, ◌≤◌, ℕ, [], None, IsTrue, MatchOption, length, OnOk};
 ghost use Rattle.proc_image.specs.Paged.{cells, page_of, table_of, with_cell};
 
 use crate::cell::Cell;
@@ -38,6 +38,16 @@ impl Memory {
         self.directory.get(number)
     }
 
+    /// Whether the table with a number isn't there.
+    pub(crate) fn is_table_absent(&self, number: u32) -> bool
+        ensures { IsTrue result → table_of self.now number ≡ [] }
+    {
+        match self.table(number as usize) {
+            Some(table) => table.is_empty(),
+            None => true,
+        }
+    }
+
     /// The page with a number; `None` where it isn't there.
     pub(crate) fn page(&self, number: u32) -> Option<&Page>
         ensures { MatchOption result (page_of self.now number ≡ []) (λ p. p.now ≡ page_of self.now number) }
@@ -46,6 +56,16 @@ impl Memory {
         match self.table(number / 1_024) {
             Some(table) => table.page(number % 1_024),
             None => None,
+        }
+    }
+
+    /// Whether the page with a number isn't there.
+    pub(crate) fn is_page_absent(&self, number: u32) -> bool
+        ensures { IsTrue result → page_of self.now number ≡ [] }
+    {
+        match self.page(number) {
+            Some(page) => page.is_empty(),
+            None => true,
         }
     }
 

@@ -2,7 +2,8 @@
 //! in it.
 
 ghost use Rattle.std.specs.Prelude.{◌≡◌, ◌<◌, ◌≤◌, ◌↔◌, ℕ, [], None, IsTrue, MatchOption, length, slice_index_or, slice_set, OnOk};
-ghost use Rattle.proc_image.specs.Paged.{IsLonger};
+ghost use Rattle.proc_image.specs.Counting.{some_below};
+ghost use Rattle.proc_image.specs.Paged.{IsLonger, is_mapped_in};
 
 use crate::cell::Cell;
 use mv_base::NoMemory;
@@ -52,6 +53,21 @@ impl Page {
             Some(cell) => *cell,
             None => None,
         }
+    }
+
+    /// Whether a cell is mapped at one of the 4,096 places.
+    pub fn has_cell(&self) -> bool
+        ensures { result ≡ some_below (is_mapped_in self.now) 4096 }
+    {
+        if self.is_empty() {
+            return false;
+        }
+        for place in 0..PAGE_SIZE {
+            if self.cell(place).is_some() {
+                return true;
+            }
+        }
+        false
     }
 
     /// Maps a cell at a place that the page has, or with `None` takes it away.
