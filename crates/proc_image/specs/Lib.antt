@@ -5,4 +5,3 @@ pub mod Writing
 pub mod Counting
 pub mod Mapping
 pub mod Applying
-pub mod Loading

@@ -8,11 +8,9 @@ mod cell;
 mod count;
 pub mod effects;
 mod limits;
-pub mod loading;
 mod mapping;
 pub mod memory;
 mod page;
 
 pub use effects::EffectFault;
-pub use loading::{LoadFault, load};
 pub use memory::Memory;

@@ -1,3 +1,4 @@
 -- lemmas that the proofs of this crate share
 pub mod Rounding
 pub mod Fetched
+pub mod Applied

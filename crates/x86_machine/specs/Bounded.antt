@@ -1,7 +1,10 @@
 -- Effects on a machine that maps at most 16,384 pages. This project's own.
-use Rattle.std.specs.Prelude.{◌≡◌, ℕ, Bool, true, false, List, [], ◌∷◌, ◌++◌, Option, Some, None, nat_le, if◌then◌else◌}
+use Rattle.std.specs.Prelude.{◌≡◌, ℕ, Bool, true, false, List, [], ◌∷◌, ◌++◌, Option, Some, None, nat_le, if◌then◌else◌, Result, Ok, Err}
 use Rattle.mv_base.specs.Memory.{Memory}
+use Rattle.mv_base.specs.Effects as refusal
 use Rattle.mv_base.specs.Effects.{Effect, Refusal, Applied, AllApplied, RefusedAt, refusal_of, applied, apply_all}
+use Rattle.proc_image.specs.declared.effects.EffectFault.{EffectFault}
+use Rattle.proc_image.specs.declared.effects.EffectFault.TheVariants.{Executable, NotMapped, NotWritable, TooLarge, NoMemory}
 use Rattle.proc_image.specs.Applying.{is_map}
 use Rattle.proc_image.specs.Counting.{mapped_size}
 
@@ -37,3 +40,12 @@ pub record WantsMemory (m : Memory) (es : List Effect) (new : Memory) : Type 0 w
   pub split : es ≡ before ++ effect ∷ after
   pub maps : is_map effect ≡ true
   pub stand : apply_all m before ≡ AllApplied new
+
+-- the answer to effects in their order, by the memories before and after them
+abbrev pub AreApplied : Memory → List Effect → Memory → Result (Unit {0}) EffectFault → Type 0
+AreApplied old es new (Ok _) = apply_bounded old es ≡ Within (AllApplied new)
+AreApplied old es new (Err Executable) = apply_bounded old es ≡ Within (RefusedAt refusal.Executable new)
+AreApplied old es new (Err (NotMapped a)) = apply_bounded old es ≡ Within (RefusedAt (refusal.NotMapped a) new)
+AreApplied old es new (Err (NotWritable a)) = apply_bounded old es ≡ Within (RefusedAt (refusal.NotWritable a) new)
+AreApplied old es new (Err (TooLarge n)) = apply_bounded old es ≡ Beyond n new
+AreApplied old es new (Err NoMemory) = WantsMemory old es new

@@ -1,3 +1,4 @@
 pub mod Calls
 pub mod TurnResults
 pub mod Machines
+pub mod Bounded

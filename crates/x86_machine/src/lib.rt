@@ -12,5 +12,6 @@ mod round;
 mod running;
 mod stack;
 mod strings;
+mod system;
 mod transfers;
 mod turns;
