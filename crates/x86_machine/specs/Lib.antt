@@ -2,3 +2,4 @@ pub mod Calls
 pub mod TurnResults
 pub mod Machines
 pub mod Bounded
+pub mod Stepping

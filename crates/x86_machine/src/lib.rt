@@ -6,6 +6,7 @@ mod bits;
 mod call;
 mod conditions;
 mod fetching;
+pub mod machine;
 mod moves;
 mod operands;
 mod round;
