@@ -8,3 +8,4 @@ pub mod Counts
 pub mod Fills
 pub mod Fresh
 pub mod Effecting
+pub mod Segmented

@@ -6,3 +6,4 @@ pub mod Counting
 pub mod Mapping
 pub mod Applying
 pub mod Loading
+pub mod Stack

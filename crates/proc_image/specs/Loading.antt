@@ -1,5 +1,6 @@
 -- What loading an image gives. This project's own.
-use Rattle.std.specs.Prelude.{◌≡◌, ℕ, ◌+◌, ◌<◌, ◌≤◌, List, Result, Ok, Err}
+use Rattle.std.specs.Prelude.{◌≡◌, ℕ, ◌+◌, ◌<◌, ◌≤◌, List, [], ◌∷◌, Result, Ok, Err}
+use Rattle.elf32_read.specs.declared.image.Segment.{Segment}
 use Rattle.elf32_read.specs.Load.{load}
 use Rattle.proc_image.specs.declared.loading.LoadFault.{LoadFault}
 use Rattle.proc_image.specs.declared.loading.LoadFault.TheVariants.{TooLarge, NoMemory}
@@ -25,3 +26,8 @@ abbrev pub IsLoaded : List ℕ → Result Pages LoadFault → Type 0
 IsLoaded b (Ok m) = IsMemoryOf b m
 IsLoaded b (Err (TooLarge n)) = IsTooLarge b n
 IsLoaded b (Err NoMemory) = loaded_size b ≤ 67108864
+
+-- segments that ascend from an address on and don't meet, all below the first address that no memory has
+abbrev pub AreAscending : ℕ → List Segment → Type 0
+AreAscending from [] = Unit {0}
+AreAscending from (s ∷ ss) = (from ≤ s.range.lo) × (0 < s.range.len) × (s.range.lo + s.range.len ≤ 0xFFFFF000) × AreAscending (s.range.lo + s.range.len) ss

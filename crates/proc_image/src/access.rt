@@ -141,7 +141,7 @@ impl Memory {
         self.put_byte(at.wrapping_add(1), (n / 0x100 % 0x100) as u8);
     }
 
-    fn put_dword(&mut self, at: u32, n: u32)
+    pub(crate) fn put_dword(&mut self, at: u32, n: u32)
         ensures { cells self.new ≡ put (cells self.old) at (little_bytes 4 n) }
     {
         self.put_word(at, n);

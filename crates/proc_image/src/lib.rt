@@ -11,7 +11,9 @@ pub mod loading;
 mod mapping;
 pub mod memory;
 mod page;
+pub mod stack;
 
 pub use effects::EffectFault;
 pub use loading::{LoadFault, load};
 pub use memory::Memory;
+pub use stack::StackFault;

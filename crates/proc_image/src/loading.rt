@@ -1,12 +1,12 @@
 //! Loading an image.
 
-ghost use Rattle.std.specs.Prelude.{◌≡◌, ◌+◌, ℕ, take, drop, length, IfOk};
+ghost use Rattle.std.specs.Prelude.{◌≡◌, ◌+◌, ◌/◌, ◌≤◌, ℕ, List, take, drop, length, IfOk};
 ghost use Rattle.elf32_read.specs.Load.{load_in};
 ghost use Rattle.elf32_read.specs.Reading.{IsImage};
 ghost use Rattle.elf32_read.specs.Runs.{IsFilled};
 ghost use Rattle.elf32_read.specs.Segments.{ArePlaced};
 ghost use Rattle.proc_image.specs.Counting.{mapped_pages};
-ghost use Rattle.proc_image.specs.Loading.{IsLoaded};
+ghost use Rattle.proc_image.specs.Loading.{AreAscending, IsLoaded};
 ghost use Rattle.proc_image.specs.Paged.{cells};
 
 use crate::limits::{MOST_MAPPED, PAGE_BYTES, STACK_BYTES};
@@ -44,26 +44,34 @@ pub fn load(alloc: Global, image: &Image, bytes: &[u8]) -> Result<Memory, LoadFa
     ensures { IsLoaded bytes.now result }
 {
     let segments = image.segments.as_slice();
-    let size = PAGE_BYTES * u64::from(page_count(segments, bytes)) + STACK_BYTES;
+    let size = PAGE_BYTES * u64::from(page_count(segments)) + STACK_BYTES;
     if size > MOST_MAPPED {
         return Err(LoadFault::TooLarge(size));
     }
     Ok(load_segments(alloc, segments, bytes)?)
 }
 
-/// How many pages of segments hold a mapped byte. The segments ascend and don't meet.
-fn page_count(segments: &[Segment], _bytes: &[u8]) -> u32
-    requires { ArePlaced _bytes.now 0 segments.now }
-    ensures { result ≡ mapped_pages (load_in _bytes.now segments.now) }
+/// How many pages hold a mapped byte of segments that ascend and don't meet.
+fn page_count(segments: &[Segment]) -> u32
+    requires { AreAscending 0 segments.now }
+    ensures { (b : List ℕ) → result ≡ mapped_pages (load_in b segments.now) }
 {
     let mut pages = 0;
-    let mut free = 0;
+    let mut end = 0;
     for segment in segments {
-        let first = free.max(segment.range.lo() / 4_096);
-        free = (segment.range.lo() + segment.range.len() + 4_095) / 4_096;
-        pages += free - first;
+        let first = pages_below(end).max(segment.range.lo() / 4_096);
+        end = segment.range.lo() + segment.range.len();
+        pages += pages_below(end) - first;
     }
     pages
+}
+
+/// How many pages begin below an address.
+fn pages_below(end: u32) -> u32
+    requires { end ≤ 0xFFFFF000 }
+    ensures { result ≡ (end + 4095) / 4096 }
+{
+    (end + 4_095) / 4_096
 }
 
 /// Memory with the cells of segments, in which the first segment with an address counts.
