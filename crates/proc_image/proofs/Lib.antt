@@ -9,3 +9,4 @@ pub mod Fills
 pub mod Fresh
 pub mod Effecting
 pub mod Segmented
+pub mod Stacking
