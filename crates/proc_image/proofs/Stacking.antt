@@ -13,7 +13,7 @@ use Rattle.mv_base.specs.Memory.{Cell, Memory, within, is_mapped, address_after,
 use Rattle.proc_image.specs.Counting.{some_below, holds_mapped}
 use Rattle.proc_image.specs.Mapping.{filled}
 use Rattle.proc_image.specs.Stack.{argument_bytes, arguments_at, pointers, stack_words, stack_pointer, stack_byte, with_stack, stack_taken}
-use Rattle.proc_image.specs.Writing.{put-append}
+use Rattle.proc_image.specs.Laws.{put-append}
 use Rattle.proc_image.proofs.Counts.{some-here, some-none}
 use Rattle.proc_image.proofs.Fills.{inside, is_inside, is_below, is_above}
 use Rattle.proc_image.proofs.Pages.{at_padded}

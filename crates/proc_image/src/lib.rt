@@ -12,6 +12,8 @@ mod mapping;
 pub mod memory;
 mod page;
 pub mod stack;
+#[cfg(test)]
+mod tests;
 
 pub use effects::EffectFault;
 pub use loading::{LoadFault, load};
