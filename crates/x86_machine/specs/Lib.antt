@@ -3,3 +3,4 @@ pub mod TurnResults
 pub mod Machines
 pub mod Bounded
 pub mod Stepping
+pub mod Starting

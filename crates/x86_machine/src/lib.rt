@@ -12,6 +12,7 @@ mod operands;
 mod round;
 mod running;
 mod stack;
+pub mod starting;
 mod strings;
 mod system;
 mod transfers;
