@@ -1,5 +1,9 @@
 pub mod Flow
 pub mod Flags
+pub mod Prefixes
+pub mod Addressing
+pub mod Meaning
+pub mod Rows
 pub mod Spelling
 pub mod State
 pub mod Round
