@@ -5,6 +5,12 @@ pub mod Addressing
 pub mod Meaning
 pub mod Rows
 pub mod Spelling
+pub mod Scanning
+pub mod Agreeing
+pub mod Scanned
+pub mod OperandBytes
+pub mod OperandScan
+pub mod RowScan
 pub mod State
 pub mod Round
 pub mod Step

@@ -118,7 +118,15 @@ abbrev pub immediate_place : Bool → List ℕ → ℕ
 immediate_place true s = address_length s
 immediate_place false s = 0
 
+-- the bytes from ModRM on, of a row's operand bytes
+abbrev pub addressed : Bool → List ℕ → List ℕ
+addressed true s = s
+addressed false s = []
+
 -- what follows describes the operand bytes s of a row under the prefixes' marks
+abbrev pub from_modrm : Row → List ℕ → List ℕ
+from_modrm r s = addressed (has_modrm r.layout) s
+
 abbrev pub row_width : Row → Marks → Width
 row_width r m = width_of r.size m.word
 
@@ -131,15 +139,16 @@ takes_marks r m = (not m.word || takes_word r.size) && takes_repeat r.repeat m.r
 
 -- ModRM is one of the row's; F0 asks for memory
 abbrev pub takes_modrm : Row → Marks → List ℕ → Bool
-takes_modrm r m s = takes_digit r.digit (reg_field s) && takes_operand r.layout (names_memory s) && (not m.lock || names_memory s)
+takes_modrm r m s =
+    takes_digit r.digit (reg_field (from_modrm r s)) && takes_operand r.layout (names_memory (from_modrm r s)) && (not m.lock || names_memory (from_modrm r s))
 
 abbrev pub operands_of : Row → Marks → ℕ → List ℕ → Operands
 operands_of r m opcode s = record {
   width = row_width r m;
   marks = m;
   opcode = opcode;
-  reg = reg_of (reg_field s);
-  rm = rm_of s;
+  reg = reg_of (reg_field (from_modrm r s));
+  rm = rm_of (from_modrm r s);
   immediate = immediate_of r.immediate (row_width r m) s (immediate_place (has_modrm r.layout) s);
 }
 
