@@ -11,6 +11,7 @@ pub mod Scanned
 pub mod OperandBytes
 pub mod OperandScan
 pub mod RowScan
+pub mod PrefixScan
 pub mod State
 pub mod Round
 pub mod Step

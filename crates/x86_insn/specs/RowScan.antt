@@ -264,6 +264,7 @@ rows_scan_of (r ∷ rs) m h b =
 
 -- any two rows of the table are apart
 pub table_is_apart : are_apart rows ≡ true
+unfolding rows
 table_is_apart = refl
 
 pub rows_scan : (m : Marks) (b : List ℕ) → IsScan (spelled_rows rows m) b (scan_rows rows m b)

@@ -207,7 +207,8 @@ transfers =
     row Escape 0x0B 1 None NoModrm Absent Dword false Never Ud2 ∷
     []
 
-abbrev pub rows : List Row
+-- all rows
+unfoldable pub rows : List Row
 rows =
     alu_rows Add 0 true ++ alu_rows Or 1 true ++ alu_rows Adc 2 true ++ alu_rows Sbb 3 true
     ++ alu_rows And 4 true ++ alu_rows Sub 5 true ++ alu_rows Xor 6 true ++ alu_rows Cmp 7 false
