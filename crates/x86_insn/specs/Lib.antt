@@ -12,6 +12,7 @@ pub mod OperandBytes
 pub mod OperandScan
 pub mod RowScan
 pub mod PrefixScan
+pub mod Laws
 pub mod State
 pub mod Round
 pub mod Step

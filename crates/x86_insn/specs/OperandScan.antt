@@ -21,20 +21,20 @@ small_digit None = true
 small_digit (Some d) = nat_lt d 8
 
 -- operand bytes of a row are a spelling
-record Fits (r : Row) (m : Marks) (opcode : ℕ) (s : List ℕ) (i : Insn) : Type 0 where
-  marks : takes_marks r m ≡ true
-  modrm : takes_modrm r m s ≡ true
-  whole : length s ≡ operand_length r m s
-  means : meaning r.kind (operands_of r m opcode s) ≡ i
+pub record Fits (r : Row) (m : Marks) (opcode : ℕ) (s : List ℕ) (i : Insn) : Type 0 where
+  pub marks : takes_marks r m ≡ true
+  pub modrm : takes_modrm r m s ≡ true
+  pub whole : length s ≡ operand_length r m s
+  pub means : meaning r.kind (operands_of r m opcode s) ≡ i
 
-fits_of : (r : Row) (m : Marks) (opcode : ℕ) (s : List ℕ) (i : Insn) → spelled_operands r m opcode s ≡ Some i → Fits r m opcode s i
+pub fits_of : (r : Row) (m : Marks) (opcode : ℕ) (s : List ℕ) (i : Insn) → spelled_operands r m opcode s ≡ Some i → Fits r m opcode s i
 fits_of r m opcode s i e =
     let c = chosen _ (Some (meaning r.kind (operands_of r m opcode s))) i e in
     let w = both_true (takes_marks r m && takes_modrm r m s) _ c.0 in
     let v = both_true (takes_marks r m) _ w.0 in
     record { marks = v.0; modrm = v.1; whole = eqb-true (length s) (operand_length r m s) w.1; means = cc (c.1) }
 
-spelled_of : (r : Row) (m : Marks) (opcode : ℕ) (s : List ℕ) (i : Insn) → Fits r m opcode s i → spelled_operands r m opcode s ≡ Some i
+pub spelled_of : (r : Row) (m : Marks) (opcode : ℕ) (s : List ℕ) (i : Insn) → Fits r m opcode s i → spelled_operands r m opcode s ≡ Some i
 spelled_of r m opcode s i w =
     let t : (takes_marks r m && takes_modrm r m s && (length s == operand_length r m s)) ≡ true =
         and_true _ _ (and_true _ _ w.marks w.modrm) (eq-eqb (length s) (operand_length r m s) w.whole) in

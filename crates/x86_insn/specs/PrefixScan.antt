@@ -65,11 +65,11 @@ among_outside p (x ∷ bs) b s h k = by_test (among_outside p bs b s (both_true 
     by_test rest false e = rest
 
 -- what rows spell begins with a byte that is no prefix
-record Headed (s : List ℕ) : Type 0 where
-  byte : ℕ
-  rest : List ℕ
-  parts : s ≡ byte ∷ rest
-  plain : is_prefix byte ≡ false
+pub record Headed (s : List ℕ) : Type 0 where
+  pub byte : ℕ
+  pub rest : List ℕ
+  pub parts : s ≡ byte ∷ rest
+  pub plain : is_prefix byte ≡ false
 
 nonempty_pattern : (lead : List (ℕ × ℕ)) (s : List ℕ) → Begins lead s → all_outside lead (0x66 ∷ segments ++ locks_and_repeats) ≡ true → Headed s
 nonempty_pattern [] s h k = absurd (cc k)
@@ -252,7 +252,7 @@ prefixes_lack b h = lacks (is_among b 0x66) (is_among b 0xF0) (is_among b 0xF3) 
 -- ---- the whole
 
 -- what all of a list spells, by its prefixes and the rest
-unlimited_of : (ps u : List ℕ) (j : Insn) → are_prefixes ps ≡ true → may_stand_together ps ≡ true → spelled_rows rows (marks_of ps) u ≡ Some j → unlimited (ps ++ u) ≡ Some j
+pub unlimited_of : (ps u : List ℕ) (j : Insn) → are_prefixes ps ≡ true → may_stand_together ps ≡ true → spelled_rows rows (marks_of ps) u ≡ Some j → unlimited (ps ++ u) ≡ Some j
 unlimited_of ps u j p t e =
     let h = headed (marks_of ps) u j e in
     let f : front (ps ++ u) ≡ ps = ap (λ (v : List ℕ). front (ps ++ v)) h.parts ∙ front_of ps h.byte h.rest p h.plain in
@@ -260,13 +260,13 @@ unlimited_of ps u j p t e =
     let test : may_stand_together (front (ps ++ u)) ≡ true = ap may_stand_together f ∙ t in
     ap (λ (v : Bool). elim v as (λ _. Option Insn) [ true ↦ spelled_rows rows (marks_of (front (ps ++ u))) (body (ps ++ u)) | false ↦ None ]) test ∙ ap₂ (λ (q v : List ℕ). spelled_rows rows (marks_of q) v) f b ∙ e
 
-record UnlimitedParts (s : List ℕ) (j : Insn) : Type 0 where
-  together : may_stand_together (front s) ≡ true
-  spells : spelled_rows rows (marks_of (front s)) (body s) ≡ Some j
-  head : Headed (body s)
-  size : length s ≡ length (front s) + length (body s)
+pub record UnlimitedParts (s : List ℕ) (j : Insn) : Type 0 where
+  pub together : may_stand_together (front s) ≡ true
+  pub spells : spelled_rows rows (marks_of (front s)) (body s) ≡ Some j
+  pub head : Headed (body s)
+  pub size : length s ≡ length (front s) + length (body s)
 
-unlimited_parts : (s : List ℕ) (j : Insn) → unlimited s ≡ Some j → UnlimitedParts s j
+pub unlimited_parts : (s : List ℕ) (j : Insn) → unlimited s ≡ Some j → UnlimitedParts s j
 unlimited_parts s j e =
     let c = chosen (may_stand_together (front s)) (spelled_rows rows (marks_of (front s)) (body s)) j e in
     record { together = c.0; spells = c.1; head = headed (marks_of (front s)) (body s) j c.1; size = omega (arith, ap length (split s), length-append (front s) (body s)) }

@@ -246,7 +246,7 @@ abbrev pub are_apart : List Row → Bool
 are_apart [] = true
 are_apart (r ∷ rs) = is_sound r && apart_from r rs && are_apart rs
 
-exclude_rows : (r : Row) (rs : List Row) (m : Marks) → apart_from r rs ≡ true → Exclude (spelled_row r m) (spelled_rows rs m)
+pub exclude_rows : (r : Row) (rs : List Row) (m : Marks) → apart_from r rs ≡ true → Exclude (spelled_row r m) (spelled_rows rs m)
 exclude_rows r [] m h s t i j e f a = absurd (cc f)
 exclude_rows r (q ∷ rs) m h s t i j e f a =
     let w = both_true (apart r q) _ h in
