@@ -90,7 +90,7 @@ spelled_spells s i e =
     let v = unlimited_parts s i w.spells in
     let r = by_row rows (marks_of (front s)) (body s) i v.spells in
     let p = row_parts r.row (marks_of (front s)) (body s) i r.spells in
-    let f = fits_of r.row (marks_of (front s)) p.opcode p.operands i p.spells in
+    let f = fits_of r.row.form (marks_of (front s)) p.opcode p.operands i p.spells in
     record {
       prefixes = front s;
       row = r.row;
@@ -109,8 +109,8 @@ spelled_spells s i e =
       means = f.means;
     }
 
-from_opcode : (r : Row) (m : Marks) (o : ℕ) (s : List ℕ) (i : Insn) → is_opcode r o ≡ true → spelled_operands r m o s ≡ Some i → spelled_opcode r m (o ∷ s) ≡ Some i
-from_opcode r m o s i h e = ap (λ (t : Bool). elim t as (λ _. Option Insn) [ true ↦ spelled_operands r m o s | false ↦ None ]) h ∙ e
+from_opcode : (r : Row) (m : Marks) (o : ℕ) (s : List ℕ) (i : Insn) → is_opcode r o ≡ true → spelled_operands r.form m o s ≡ Some i → spelled_opcode r m (o ∷ s) ≡ Some i
+from_opcode r m o s i h e = ap (λ (t : Bool). elim t as (λ _. Option Insn) [ true ↦ spelled_operands r.form m o s | false ↦ None ]) h ∙ e
 
 from_lead : (lead : List ℕ) (f : List ℕ → Option Insn) (s : List ℕ) (i : Insn) → f s ≡ Some i → behind_lead lead f (lead ++ s) ≡ Some i
 from_lead [] f s i e = e
@@ -119,7 +119,7 @@ from_lead (x ∷ lead) f s i e = ap (λ (t : Bool). elim t as (λ _. Option Insn
 pub spells_spelled : (s : List ℕ) (i : Insn) → Spells s i → spelled s ≡ Some i
 spells_spelled s i w =
     let m = marks_of w.prefixes in
-    let operands = spelled_of w.row m w.opcode w.operands i (record { marks = w.marks; modrm = w.modrm; whole = w.whole; means = w.means }) in
+    let operands = spelled_of w.row.form m w.opcode w.operands i (record { marks = w.marks; modrm = w.modrm; whole = w.whole; means = w.means }) in
     let u : List ℕ = lead_bytes w.row.lead ++ w.opcode ∷ w.operands in
     let row : spelled_row w.row m u ≡ Some i = from_lead (lead_bytes w.row.lead) (spelled_opcode w.row m) (w.opcode ∷ w.operands) i (from_opcode w.row m w.opcode w.operands i w.is_opcode operands) in
     let listed = from_row rows m u i w.row w.listed.0 table_is_apart w.listed.1 w.listed.2 row in

@@ -9,11 +9,11 @@ use Rattle.x86_insn.specs.declared.insn.Width.{Width}
 use Rattle.x86_insn.specs.declared.insn.Width.TheVariants.{B, W, D}
 use Rattle.x86_insn.specs.declared.row.Immediate.{Immediate}
 use Rattle.x86_insn.specs.declared.row.Immediate.TheVariants.{Absent, Ib, SignedIb, Iw, Id, Iz}
-use Rattle.x86_insn.specs.declared.row.Row.{Row}
+use Rattle.x86_insn.specs.declared.row.Form.{Form}
 use Rattle.x86_insn.specs.declared.row.Marks.{Marks}
 use Rattle.x86_insn.specs.declared.row.Operands.{Operands}
 use Rattle.x86_insn.specs.Addressing.{byte_at, dword_at, sign_extended, reg_of, mod_field, reg_field, rm_field, scale_field, index_field, base_field, names_memory, has_sib, base_number, has_base, displacement_place, displacement_bytes, displacement_of, displacement_length, address_length, factor_of, has_index, memory_of, rm_of}
-use Rattle.x86_insn.specs.Spelling.{has_modrm, takes_digit, takes_operand, immediate_length, signed_byte, half_number, immediate_of, immediate_place, addressed, from_modrm, row_width, operand_length, takes_modrm, operands_of}
+use Rattle.x86_insn.specs.Spelling.{has_modrm, takes_digit, takes_operand, immediate_length, signed_byte, half_number, immediate_of, immediate_place, addressed, from_modrm, form_width, operand_length, takes_modrm, operands_of}
 
 -- the same bytes stand in both below a place
 abbrev pub Same : ℕ → List ℕ → List ℕ → Type 0
@@ -148,36 +148,36 @@ same_operand s t h =
     }
 
 -- with the immediate, of a row
-pub record SameOperands (r : Row) (m : Marks) (opcode : ℕ) (s t : List ℕ) : Type 0 where
+pub record SameOperands (r : Form) (m : Marks) (opcode : ℕ) (s t : List ℕ) : Type 0 where
   pub length : operand_length r m s ≡ operand_length r m t
   pub modrm : takes_modrm r m s ≡ takes_modrm r m t
   pub operands : operands_of r m opcode s ≡ operands_of r m opcode t
 
-abbrev takes_by : Row → Marks → ℕ → Bool → Bool
+abbrev takes_by : Form → Marks → ℕ → Bool → Bool
 takes_by r m n v = takes_digit r.digit n && takes_operand r.layout v && (not m.lock || v)
 
-immediate_at : (r : Row) (m : Marks) (s t : List ℕ) (p : ℕ) → Same (p + immediate_length r.immediate (row_width r m)) s t → immediate_of r.immediate (row_width r m) s p ≡ immediate_of r.immediate (row_width r m) t p
-immediate_at r m s t p h = immediate_same r.immediate (row_width r m) s t p h
+immediate_at : (r : Form) (m : Marks) (s t : List ℕ) (p : ℕ) → Same (p + immediate_length r.immediate (form_width r m)) s t → immediate_of r.immediate (form_width r m) s p ≡ immediate_of r.immediate (form_width r m) t p
+immediate_at r m s t p h = immediate_same r.immediate (form_width r m) s t p h
 
 operands_same : (w : Width) (m : Marks) (o : ℕ) (g g' : Reg) (x x' : Rm) (i i' : ℕ) → g ≡ g' → x ≡ x' → i ≡ i' → ◌≡◌ {A = Operands} (record { width = w; marks = m; opcode = o; reg = g; rm = x; immediate = i }) (record { width = w; marks = m; opcode = o; reg = g'; rm = x'; immediate = i' })
 operands_same w m o g g' x x' i i' p q e = cc
 
-pub same_operands : (r : Row) (m : Marks) (opcode : ℕ) (s t : List ℕ) → Same (operand_length r m s) s t → SameOperands r m opcode s t
+pub same_operands : (r : Form) (m : Marks) (opcode : ℕ) (s t : List ℕ) → Same (operand_length r m s) s t → SameOperands r m opcode s t
 same_operands r m opcode s t h = go (has_modrm r.layout) refl
   where
     made : reg_field (from_modrm r s) ≡ reg_field (from_modrm r t) → names_memory (from_modrm r s) ≡ names_memory (from_modrm r t) → rm_of (from_modrm r s) ≡ rm_of (from_modrm r t) → immediate_place (has_modrm r.layout) s ≡ immediate_place (has_modrm r.layout) t → SameOperands r m opcode s t
     made reg names rm place =
         let imm : (operands_of r m opcode s).immediate ≡ (operands_of r m opcode t).immediate =
-            immediate_at r m s t (immediate_place (has_modrm r.layout) s) h ∙ ap (immediate_of r.immediate (row_width r m) t) place in
+            immediate_at r m s t (immediate_place (has_modrm r.layout) s) h ∙ ap (immediate_of r.immediate (form_width r m) t) place in
         let regs : reg_of (reg_field (from_modrm r s)) ≡ reg_of (reg_field (from_modrm r t)) = ap reg_of reg in
         record {
-          length = ap (λ (k : ℕ). k + immediate_length r.immediate (row_width r m)) place;
+          length = ap (λ (k : ℕ). k + immediate_length r.immediate (form_width r m)) place;
           modrm = ap₂ (takes_by r m) reg names;
           operands = operands_same _ _ _ _ _ _ _ _ _ regs rm imm;
         }
     go : (v : Bool) → has_modrm r.layout ≡ v → SameOperands r m opcode s t
     go true e =
-        let len : operand_length r m s ≡ address_length s + immediate_length r.immediate (row_width r m) = ap (λ (v : Bool). immediate_place v s + immediate_length r.immediate (row_width r m)) e in
+        let len : operand_length r m s ≡ address_length s + immediate_length r.immediate (form_width r m) = ap (λ (v : Bool). immediate_place v s + immediate_length r.immediate (form_width r m)) e in
         let o = same_operand s t (λ k l. h k (omega (arith, len))) in
         let fs : from_modrm r s ≡ s = ap (λ (v : Bool). addressed v s) e in
         let ft : from_modrm r t ≡ t = ap (λ (v : Bool). addressed v t) e in

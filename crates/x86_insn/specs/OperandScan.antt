@@ -5,12 +5,12 @@ use Rattle.std.proofs.lemmas.Bool.{eqb-true, eq-eqb, leb-true, le-leb, cases_lt}
 use Rattle.x86_insn.specs.declared.insn.Insn.{Insn}
 use Rattle.x86_insn.specs.declared.row.Layout.{Layout}
 use Rattle.x86_insn.specs.declared.row.Layout.TheVariants.{NoModrm, Any, Memory, Register}
-use Rattle.x86_insn.specs.declared.row.Row.{Row}
+use Rattle.x86_insn.specs.declared.row.Form.{Form}
 use Rattle.x86_insn.specs.declared.row.Marks.{Marks}
 use Rattle.x86_insn.specs.declared.row.Operands.{Operands}
 use Rattle.x86_insn.specs.Addressing.{byte_at, reg_field, rm_field, base_field, base_number, names_memory, has_sib, has_base, mod_field, displacement_place, displacement_bytes, address_length}
 use Rattle.x86_insn.specs.Meaning.{meaning}
-use Rattle.x86_insn.specs.Spelling.{has_modrm, takes_digit, takes_operand, immediate_length, immediate_place, addressed, from_modrm, row_width, operand_length, takes_marks, takes_modrm, operands_of, spelled_operands, are_bytes}
+use Rattle.x86_insn.specs.Spelling.{has_modrm, takes_digit, takes_operand, immediate_length, immediate_place, addressed, from_modrm, form_width, operand_length, takes_marks, takes_modrm, operands_of, spelled_operands, are_bytes}
 use Rattle.x86_insn.specs.Scanning.{Scan, Found, More, Nothing, mod_of, digit_of, seeded, sized, scan_operands, Agree, IsScan}
 use Rattle.x86_insn.specs.Agreeing.{chosen, both_true, and_true, true_or_false, true_not_false, agree_byte, agree_swap, byte_of_take, byte_of_padded, zeros_are_bytes, padded_length, are_bytes_cons}
 use Rattle.x86_insn.specs.OperandBytes.{Same, address_above, same_length, same_operands}
@@ -21,46 +21,46 @@ small_digit None = true
 small_digit (Some d) = nat_lt d 8
 
 -- operand bytes of a row are a spelling
-pub record Fits (r : Row) (m : Marks) (opcode : ℕ) (s : List ℕ) (i : Insn) : Type 0 where
+pub record Fits (r : Form) (m : Marks) (opcode : ℕ) (s : List ℕ) (i : Insn) : Type 0 where
   pub marks : takes_marks r m ≡ true
   pub modrm : takes_modrm r m s ≡ true
   pub whole : length s ≡ operand_length r m s
   pub means : meaning r.kind (operands_of r m opcode s) ≡ i
 
-pub fits_of : (r : Row) (m : Marks) (opcode : ℕ) (s : List ℕ) (i : Insn) → spelled_operands r m opcode s ≡ Some i → Fits r m opcode s i
+pub fits_of : (r : Form) (m : Marks) (opcode : ℕ) (s : List ℕ) (i : Insn) → spelled_operands r m opcode s ≡ Some i → Fits r m opcode s i
 fits_of r m opcode s i e =
     let c = chosen _ (Some (meaning r.kind (operands_of r m opcode s))) i e in
     let w = both_true (takes_marks r m && takes_modrm r m s) _ c.0 in
     let v = both_true (takes_marks r m) _ w.0 in
     record { marks = v.0; modrm = v.1; whole = eqb-true (length s) (operand_length r m s) w.1; means = cc (c.1) }
 
-pub spelled_of : (r : Row) (m : Marks) (opcode : ℕ) (s : List ℕ) (i : Insn) → Fits r m opcode s i → spelled_operands r m opcode s ≡ Some i
+pub spelled_of : (r : Form) (m : Marks) (opcode : ℕ) (s : List ℕ) (i : Insn) → Fits r m opcode s i → spelled_operands r m opcode s ≡ Some i
 spelled_of r m opcode s i w =
     let t : (takes_marks r m && takes_modrm r m s && (length s == operand_length r m s)) ≡ true =
         and_true _ _ (and_true _ _ w.marks w.modrm) (eq-eqb (length s) (operand_length r m s) w.whole) in
     ap (λ (v : Bool). elim v as (λ _. Option Insn) [ true ↦ Some (meaning r.kind (operands_of r m opcode s)) | false ↦ None ]) t ∙ ap Some w.means
 
 -- a front as long as the operand is one
-front_fits : (r : Row) (m : Marks) (opcode : ℕ) (b : List ℕ) → takes_marks r m ≡ true → takes_modrm r m b ≡ true → operand_length r m b ≤ length b → Fits r m opcode (take (operand_length r m b) b) (meaning r.kind (operands_of r m opcode b))
+front_fits : (r : Form) (m : Marks) (opcode : ℕ) (b : List ℕ) → takes_marks r m ≡ true → takes_modrm r m b ≡ true → operand_length r m b ≤ length b → Fits r m opcode (take (operand_length r m b) b) (meaning r.kind (operands_of r m opcode b))
 front_fits r m opcode b t u l =
     let n = operand_length r m b in
     let w = same_operands r m opcode b (take n b) (λ k h. sym (byte_of_take n b k h)) in
     record { marks = t; modrm = sym w.modrm ∙ u; whole = length-take-le n b l ∙ w.length; means = ap (meaning r.kind) (sym w.operands) }
 
 -- zeros for what is missing make one
-padded_fits : (r : Row) (m : Marks) (opcode : ℕ) (b : List ℕ) → takes_marks r m ≡ true → takes_modrm r m b ≡ true → length b ≤ operand_length r m b → Fits r m opcode (b ++ replicate (operand_length r m b - length b) 0) (meaning r.kind (operands_of r m opcode b))
+padded_fits : (r : Form) (m : Marks) (opcode : ℕ) (b : List ℕ) → takes_marks r m ≡ true → takes_modrm r m b ≡ true → length b ≤ operand_length r m b → Fits r m opcode (b ++ replicate (operand_length r m b - length b) 0) (meaning r.kind (operands_of r m opcode b))
 padded_fits r m opcode b t u l =
     let n = operand_length r m b in
     let w = same_operands r m opcode b (b ++ replicate (n - length b) 0) (λ k h. sym (byte_of_padded b (n - length b) k)) in
     record { marks = t; modrm = sym w.modrm ∙ u; whole = padded_length b n l ∙ w.length; means = ap (meaning r.kind) (sym w.operands) }
 
 -- the length of what fits and agrees, where it isn't longer
-same_size : (r : Row) (m : Marks) (opcode : ℕ) (s b : List ℕ) (j : Insn) → Fits r m opcode s j → Agree s b → length s ≤ length b → length s ≡ operand_length r m b
+same_size : (r : Form) (m : Marks) (opcode : ℕ) (s b : List ℕ) (j : Insn) → Fits r m opcode s j → Agree s b → length s ≤ length b → length s ≡ operand_length r m b
 same_size r m opcode s b j w a l =
     let e = same_operands r m opcode s b (λ k h. agree_byte s b k a (omega (arith, w.whole)) (omega (arith, w.whole))) in
     w.whole ∙ e.length
 
-found_size : (r : Row) (m : Marks) (opcode : ℕ) (s b : List ℕ) (j : Insn) → Fits r m opcode s j → Agree s b → operand_length r m b ≤ length b → length s ≡ operand_length r m b
+found_size : (r : Form) (m : Marks) (opcode : ℕ) (s b : List ℕ) (j : Insn) → Fits r m opcode s j → Agree s b → operand_length r m b ≤ length b → length s ≡ operand_length r m b
 found_size r m opcode s b j w a l =
     elim (cases_lt (length b) (length s)) [
       | inl h ↦
@@ -117,26 +117,26 @@ place_by : (v : Bool) (s t : List ℕ) → (v ≡ true → address_length s ≤ 
 place_by true s t h = h refl
 place_by false s t h = omega arith
 
-operand_grows : (r : Row) (m : Marks) (x : ℕ) (b s : List ℕ) → Agree s (x ∷ b) → length (x ∷ b) < length s → operand_length r m (x ∷ b) ≤ operand_length r m s
+operand_grows : (r : Form) (m : Marks) (x : ℕ) (b s : List ℕ) → Agree s (x ∷ b) → length (x ∷ b) < length s → operand_length r m (x ∷ b) ≤ operand_length r m s
 operand_grows r m x b s a l = let p = place_by (has_modrm r.layout) (x ∷ b) s (λ _. address_grows x b s a l) in omega (arith, p)
 
-more_size : (r : Row) (m : Marks) (opcode : ℕ) (s : List ℕ) (x : ℕ) (b : List ℕ) (j : Insn) → Fits r m opcode s j → Agree s (x ∷ b) → operand_length r m (x ∷ b) ≤ length s
+more_size : (r : Form) (m : Marks) (opcode : ℕ) (s : List ℕ) (x : ℕ) (b : List ℕ) (j : Insn) → Fits r m opcode s j → Agree s (x ∷ b) → operand_length r m (x ∷ b) ≤ length s
 more_size r m opcode s x b j w a =
     elim (cases_lt (length (x ∷ b)) (length s)) [
       | inl h ↦ let g = operand_grows r m x b s a h in omega (arith, g, w.whole)
       | inr h ↦ let e = same_size r m opcode s (x ∷ b) j w a h in omega (arith, e)
     ]
 
-takes_by : (r : Row) (m : Marks) (a b : ℕ) (v w : Bool) → a ≡ b → v ≡ w → (takes_digit r.digit a && takes_operand r.layout v && (not m.lock || v)) ≡ (takes_digit r.digit b && takes_operand r.layout w && (not m.lock || w))
+takes_by : (r : Form) (m : Marks) (a b : ℕ) (v w : Bool) → a ≡ b → v ≡ w → (takes_digit r.digit a && takes_operand r.layout v && (not m.lock || v)) ≡ (takes_digit r.digit b && takes_operand r.layout w && (not m.lock || w))
 takes_by r m a b v w e f = ap₂ (λ (x : ℕ) (y : Bool). takes_digit r.digit x && takes_operand r.layout y && (not m.lock || y)) e f
 
 -- what ModRM says is the first byte's
-takes_first : (r : Row) (m : Marks) (x : ℕ) (b : List ℕ) (s : List ℕ) → Agree s (x ∷ b) → length s ≡ operand_length r m s → takes_modrm r m s ≡ takes_modrm r m (x ∷ b)
+takes_first : (r : Form) (m : Marks) (x : ℕ) (b : List ℕ) (s : List ℕ) → Agree s (x ∷ b) → length s ≡ operand_length r m s → takes_modrm r m s ≡ takes_modrm r m (x ∷ b)
 takes_first r m x b s a l = by_layout (has_modrm r.layout) refl
   where
     by_layout : (v : Bool) → has_modrm r.layout ≡ v → takes_modrm r m s ≡ takes_modrm r m (x ∷ b)
     by_layout true e =
-        let len : operand_length r m s ≡ address_length s + immediate_length r.immediate (row_width r m) = ap (λ (v : Bool). immediate_place v s + immediate_length r.immediate (row_width r m)) e in
+        let len : operand_length r m s ≡ address_length s + immediate_length r.immediate (form_width r m) = ap (λ (v : Bool). immediate_place v s + immediate_length r.immediate (form_width r m)) e in
         let first : byte_at s 0 ≡ x = agree_byte s (x ∷ b) 0 a (omega (arith, l, len, address_above s)) (omega arith) in
         let fs : from_modrm r s ≡ s = ap (λ (v : Bool). addressed v s) e in
         let fb : from_modrm r (x ∷ b) ≡ x ∷ b = ap (λ (v : Bool). addressed v (x ∷ b)) e in
@@ -210,7 +210,7 @@ seed_operand Register d lock true h p q = absurd (cc p)
 seed_operand Register d lock false h p q = (ap (λ (k : ℕ). not (not (k == 3))) (seed_register d h), ap (λ (k : ℕ). not lock || not (k == 3)) (seed_register d h) ∙ q)
 
 -- of a row with ModRM: what it takes with some operand bytes it takes with the seed, which asks for no more
-seed_takes : (r : Row) (m : Marks) (s : List ℕ) → has_modrm r.layout ≡ true → small_digit r.digit ≡ true → takes_modrm r m s ≡ true → takes_modrm r m (seed r.layout r.digit) ≡ true
+seed_takes : (r : Form) (m : Marks) (s : List ℕ) → has_modrm r.layout ≡ true → small_digit r.digit ≡ true → takes_modrm r m s ≡ true → takes_modrm r m (seed r.layout r.digit) ≡ true
 seed_takes r m s e h t =
     let f : from_modrm r (seed r.layout r.digit) ≡ seed r.layout r.digit = ap (λ (v : Bool). addressed v (seed r.layout r.digit)) e in
     let w = both_true (takes_digit r.digit (reg_field (from_modrm r s)) && takes_operand r.layout (names_memory (from_modrm r s))) _ t in
@@ -219,22 +219,22 @@ seed_takes r m s e h t =
     let here = and_true _ _ (and_true _ _ (seed_digit r.layout r.digit h) o.0) o.1 in
     takes_by r m _ _ _ _ (ap reg_field f) (ap names_memory f) ∙ here
 
-length_with : (r : Row) (m : Marks) (s : List ℕ) → has_modrm r.layout ≡ true → operand_length r m s ≡ address_length s + immediate_length r.immediate (row_width r m)
-length_with r m s e = ap (λ (v : Bool). immediate_place v s + immediate_length r.immediate (row_width r m)) e
+length_with : (r : Form) (m : Marks) (s : List ℕ) → has_modrm r.layout ≡ true → operand_length r m s ≡ address_length s + immediate_length r.immediate (form_width r m)
+length_with r m s e = ap (λ (v : Bool). immediate_place v s + immediate_length r.immediate (form_width r m)) e
 
-length_without : (r : Row) (m : Marks) (s : List ℕ) → has_modrm r.layout ≡ false → operand_length r m s ≡ immediate_length r.immediate (row_width r m)
-length_without r m s e = ap (λ (v : Bool). immediate_place v s + immediate_length r.immediate (row_width r m)) e ∙ omega arith
+length_without : (r : Form) (m : Marks) (s : List ℕ) → has_modrm r.layout ≡ false → operand_length r m s ≡ immediate_length r.immediate (form_width r m)
+length_without r m s e = ap (λ (v : Bool). immediate_place v s + immediate_length r.immediate (form_width r m)) e ∙ omega arith
 
-takes_without : (r : Row) (m : Marks) (s t : List ℕ) → has_modrm r.layout ≡ false → takes_modrm r m s ≡ takes_modrm r m t
+takes_without : (r : Form) (m : Marks) (s t : List ℕ) → has_modrm r.layout ≡ false → takes_modrm r m s ≡ takes_modrm r m t
 takes_without r m s t e =
     let f : from_modrm r s ≡ from_modrm r t = ap (λ (v : Bool). addressed v s) e ∙ ap (λ (v : Bool). addressed v t) (sym e) in
     takes_by r m _ _ _ _ (ap reg_field f) (ap names_memory f)
 
 -- bytes that take the marks and the ModRM byte, by their length
-abbrev sized_scan : Row → Marks → ℕ → List ℕ → ℕ → Scan
+abbrev sized_scan : Form → Marks → ℕ → List ℕ → ℕ → Scan
 sized_scan r m opcode b n = sized (meaning r.kind (operands_of r m opcode b)) n (length b)
 
-sized_right : (r : Row) (m : Marks) (opcode : ℕ) (b : List ℕ) → takes_marks r m ≡ true → takes_modrm r m b ≡ true → ((s : List ℕ) (j : Insn) → Fits r m opcode s j → Agree s b → operand_length r m b ≤ length s) → IsScan (spelled_operands r m opcode) b (sized_scan r m opcode b (operand_length r m b))
+sized_right : (r : Form) (m : Marks) (opcode : ℕ) (b : List ℕ) → takes_marks r m ≡ true → takes_modrm r m b ≡ true → ((s : List ℕ) (j : Insn) → Fits r m opcode s j → Agree s b → operand_length r m b ≤ length s) → IsScan (spelled_operands r m opcode) b (sized_scan r m opcode b (operand_length r m b))
 sized_right r m opcode b t u low = by_size (nat_le (operand_length r m b) (length b)) refl
   where
     by_size : (v : Bool) → nat_le (operand_length r m b) (length b) ≡ v → IsScan (spelled_operands r m opcode) b (elim v [ true ↦ Found (meaning r.kind (operands_of r m opcode b)) (operand_length r m b) | false ↦ More (operand_length r m b) ])
@@ -247,7 +247,7 @@ sized_right r m opcode b t u low = by_size (nat_le (operand_length r m b) (lengt
         (l, (replicate (n - length b) 0, padded_length b n (omega arith), zeros_are_bytes (n - length b), (_, spelled_of r m opcode _ _ (padded_fits r m opcode b t u (omega arith)))), λ s j p a. low s j (fits_of r m opcode s j p) a)
 
 -- no byte is there, of a row with ModRM and of one without
-seed_only : (r : Row) (m : Marks) (opcode : ℕ) → has_modrm r.layout ≡ true → small_digit r.digit ≡ true → takes_marks r m ≡ true → takes_modrm r m (seed r.layout r.digit) ≡ true → IsScan (spelled_operands r m opcode) [] (sized_scan r m opcode [] (operand_length r m (seed r.layout r.digit)))
+seed_only : (r : Form) (m : Marks) (opcode : ℕ) → has_modrm r.layout ≡ true → small_digit r.digit ≡ true → takes_marks r m ≡ true → takes_modrm r m (seed r.layout r.digit) ≡ true → IsScan (spelled_operands r m opcode) [] (sized_scan r m opcode [] (operand_length r m (seed r.layout r.digit)))
 seed_only r m opcode e h t u =
     by_size (nat_le (operand_length r m (seed r.layout r.digit)) 0) refl
   where
@@ -266,7 +266,7 @@ seed_only r m opcode e h t u =
             let f = fits_of r m opcode s j q in
             omega (arith, len, one, f.whole, length_with r m s e, address_above s))
 
-no_bytes : (r : Row) (m : Marks) (opcode : ℕ) → small_digit r.digit ≡ true → IsScan (spelled_operands r m opcode) [] (scan_operands r m opcode [])
+no_bytes : (r : Form) (m : Marks) (opcode : ℕ) → small_digit r.digit ≡ true → IsScan (spelled_operands r m opcode) [] (scan_operands r m opcode [])
 no_bytes r m opcode h = by_marks (takes_marks r m && takes_modrm r m (seed r.layout r.digit)) refl
   where
     by_layout : (v : Bool) → has_modrm r.layout ≡ v → takes_marks r m ≡ true → takes_modrm r m (seed r.layout r.digit) ≡ true → IsScan (spelled_operands r m opcode) [] (sized_scan r m opcode [] (operand_length r m (seed r.layout r.digit)))
@@ -284,7 +284,7 @@ no_bytes r m opcode h = by_marks (takes_marks r m && takes_modrm r m (seed r.lay
         let f = fits_of r m opcode s j p in
         true_not_false (sym (and_true _ _ f.marks (seeds (has_modrm r.layout) s refl f.modrm)) ∙ e)
 
-pub operands_scan : (r : Row) (m : Marks) (opcode : ℕ) → small_digit r.digit ≡ true → (b : List ℕ) → IsScan (spelled_operands r m opcode) b (scan_operands r m opcode b)
+pub operands_scan : (r : Form) (m : Marks) (opcode : ℕ) → small_digit r.digit ≡ true → (b : List ℕ) → IsScan (spelled_operands r m opcode) b (scan_operands r m opcode b)
 operands_scan r m opcode h (x ∷ b) = by_marks (takes_marks r m && takes_modrm r m (x ∷ b)) refl
   where
     by_marks : (v : Bool) → (takes_marks r m && takes_modrm r m (x ∷ b)) ≡ v → IsScan (spelled_operands r m opcode) (x ∷ b) (elim v [ true ↦ sized_scan r m opcode (x ∷ b) (operand_length r m (x ∷ b)) | false ↦ Nothing ])

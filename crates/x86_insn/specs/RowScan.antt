@@ -8,13 +8,14 @@ use Rattle.x86_insn.specs.declared.insn.Rep.TheVariants as rep
 use Rattle.x86_insn.specs.declared.row.Lead.{Lead}
 use Rattle.x86_insn.specs.declared.row.Lead.TheVariants.{Bare, Escape, Interrupt, Hint}
 use Rattle.x86_insn.specs.declared.row.Repeat.{Repeat}
+use Rattle.x86_insn.specs.declared.row.Form.{Form}
 use Rattle.x86_insn.specs.declared.row.Row.{Row}
 use Rattle.x86_insn.specs.declared.row.Marks.{Marks}
 use Rattle.x86_insn.specs.Addressing.{byte_at, reg_field, names_memory, address_length}
 use Rattle.x86_insn.specs.Prefixes.{is_among, is_prefix, segments, locks_and_repeats}
 use Rattle.x86_insn.specs.Meaning.{meaning}
 use Rattle.x86_insn.specs.Rows.{rows}
-use Rattle.x86_insn.specs.Spelling.{lead_bytes, immediate_length, immediate_place, row_width, has_modrm, takes_word, takes_digit, takes_operand, takes_repeat, takes_marks, takes_modrm, from_modrm, addressed, operand_length, operands_of, is_opcode, spelled_operands, spelled_opcode, behind_lead, spelled_row, spelled_rows, are_bytes}
+use Rattle.x86_insn.specs.Spelling.{lead_bytes, immediate_length, immediate_place, form_width, has_modrm, takes_word, takes_digit, takes_operand, takes_repeat, takes_marks, takes_modrm, from_modrm, addressed, operand_length, operands_of, is_opcode, spelled_operands, spelled_opcode, behind_lead, spelled_row, spelled_rows, are_bytes}
 use Rattle.x86_insn.specs.Scanning.{Scan, Found, More, Nothing, unseen, seeded, sized, scan_operands, scan_opcode, scan_lead, scan_row, scan_rows, Agree, IsScan}
 use Rattle.x86_insn.specs.Agreeing.{chosen, both_true, true_not_false, or_cases, agree_byte}
 use Rattle.x86_insn.specs.Scanned.{Speller, Exclude, IsStep, best_of, step_unseen, step_seen}
@@ -32,22 +33,22 @@ unseen_sized true i j n = by_size (nat_le n 0)
     by_size true = refl
     by_size false = refl
 
-unseen_same : (r : Row) (m : Marks) (a b : ℕ) → unseen (scan_operands r m a []) ≡ unseen (scan_operands r m b [])
+unseen_same : (r : Form) (m : Marks) (a b : ℕ) → unseen (scan_operands r m a []) ≡ unseen (scan_operands r m b [])
 unseen_same r m a b = unseen_sized (takes_marks r m && takes_modrm r m (seeded r [])) (meaning r.kind (operands_of r m a [])) (meaning r.kind (operands_of r m b [])) (operand_length r m (seeded r []))
 
 -- the columns of a row are in order
 abbrev pub is_sound : Row → Bool
-is_sound r = small_digit r.digit && is_opcode r r.opcode && nat_lt r.opcode 256
+is_sound r = small_digit r.form.digit && is_opcode r r.opcode && nat_lt r.opcode 256
 
 opcode_scan : (r : Row) (m : Marks) → is_sound r ≡ true → (b : List ℕ) → IsScan (spelled_opcode r m) b (scan_opcode r m b)
 opcode_scan r m h (x ∷ t) =
-    let w = both_true (small_digit r.digit && is_opcode r r.opcode) _ h in
-    let v = both_true (small_digit r.digit) _ w.0 in
-    step_seen (spelled_opcode r m) (is_opcode r) (spelled_operands r m) x t (scan_operands r m x t) (record { empty = refl; more = λ b s. refl }) (λ e. operands_scan r m x v.0 t)
+    let w = both_true (small_digit r.form.digit && is_opcode r r.opcode) _ h in
+    let v = both_true (small_digit r.form.digit) _ w.0 in
+    step_seen (spelled_opcode r m) (is_opcode r) (spelled_operands r.form m) x t (scan_operands r.form m x t) (record { empty = refl; more = λ b s. refl }) (λ e. operands_scan r.form m x v.0 t)
 opcode_scan r m h [] =
-    let w = both_true (small_digit r.digit && is_opcode r r.opcode) _ h in
-    let v = both_true (small_digit r.digit) _ w.0 in
-    step_unseen (spelled_opcode r m) (is_opcode r) (spelled_operands r m) r.opcode (scan_operands r m r.opcode []) (record { empty = refl; more = λ b s. refl }) v.1 (leb-true (suc r.opcode) 256 w.1) (operands_scan r m r.opcode v.0 []) (λ b e. (scan_operands r m b [], operands_scan r m b v.0 [], unseen_same r m b r.opcode))
+    let w = both_true (small_digit r.form.digit && is_opcode r r.opcode) _ h in
+    let v = both_true (small_digit r.form.digit) _ w.0 in
+    step_unseen (spelled_opcode r m) (is_opcode r) (spelled_operands r.form m) r.opcode (scan_operands r.form m r.opcode []) (record { empty = refl; more = λ b s. refl }) v.1 (leb-true (suc r.opcode) 256 w.1) (operands_scan r.form m r.opcode v.0 []) (λ b e. (scan_operands r.form m b [], operands_scan r.form m b v.0 [], unseen_same r.form m b r.opcode))
 
 lead_scan : (lead : List ℕ) (f : Speller) (h : List ℕ → Scan) → are_bytes lead ≡ true → ((b : List ℕ) → IsScan f b (h b)) → (b : List ℕ) → IsScan (behind_lead lead f) b (scan_lead lead h b)
 lead_scan [] f h e w b = w b
@@ -96,8 +97,8 @@ neither a b p = not (takes_repeat a p && takes_repeat b p)
 abbrev pub apart : Row → Row → Bool
 apart r q =
     clash (pattern r) (pattern q)
-    || (nat_eq (length (lead_bytes r.lead)) (length (lead_bytes q.lead)) && has_modrm r.layout && has_modrm q.layout && differ r.digit q.digit)
-    || (neither r.repeat q.repeat rep.Once && neither r.repeat q.repeat rep.F3 && neither r.repeat q.repeat rep.F2)
+    || (nat_eq (length (lead_bytes r.lead)) (length (lead_bytes q.lead)) && has_modrm r.form.layout && has_modrm q.form.layout && differ r.form.digit q.form.digit)
+    || (neither r.form.repeat q.form.repeat rep.Once && neither r.form.repeat q.form.repeat rep.F3 && neither r.form.repeat q.form.repeat rep.F2)
 
 abbrev pub apart_from : Row → List Row → Bool
 apart_from r [] = true
@@ -133,12 +134,12 @@ pub record RowParts (r : Row) (m : Marks) (s : List ℕ) (j : Insn) : Type 0 whe
   pub operands : List ℕ
   pub parts : s ≡ lead_bytes r.lead ++ opcode ∷ operands
   pub in_span : is_opcode r opcode ≡ true
-  pub spells : spelled_operands r m opcode operands ≡ Some j
+  pub spells : spelled_operands r.form m opcode operands ≡ Some j
   pub begins : Begins (pattern r) s
 
-opcode_parts : (r : Row) (m : Marks) (s : List ℕ) (j : Insn) → spelled_opcode r m s ≡ Some j → (b : ℕ) × (u : List ℕ) × (s ≡ b ∷ u) × (is_opcode r b ≡ true) × (spelled_operands r m b u ≡ Some j)
+opcode_parts : (r : Row) (m : Marks) (s : List ℕ) (j : Insn) → spelled_opcode r m s ≡ Some j → (b : ℕ) × (u : List ℕ) × (s ≡ b ∷ u) × (is_opcode r b ≡ true) × (spelled_operands r.form m b u ≡ Some j)
 opcode_parts r m [] j e = absurd (cc e)
-opcode_parts r m (b ∷ u) j e = let c = chosen (is_opcode r b) (spelled_operands r m b u) j e in (b, u, refl, c.0, c.1)
+opcode_parts r m (b ∷ u) j e = let c = chosen (is_opcode r b) (spelled_operands r.form m b u) j e in (b, u, refl, c.0, c.1)
 
 lead_parts : (lead : List ℕ) (f : Speller) (s : List ℕ) (j : Insn) → behind_lead lead f s ≡ Some j → (u : List ℕ) × (s ≡ lead ++ u) × (f u ≡ Some j)
 lead_parts [] f s j e = (s, refl, e)
@@ -175,12 +176,12 @@ agree_behind (x ∷ a) [] s t e h = absurd (omega arith)
 agree_behind (x ∷ a) (y ∷ b) s t e h = agree_behind a b s t (omega arith) h.1
 
 -- what operand bytes that are spelled meet
-record OperandParts (r : Row) (m : Marks) (s : List ℕ) : Type 0 where
+record OperandParts (r : Form) (m : Marks) (s : List ℕ) : Type 0 where
   rep : takes_repeat r.repeat m.rep ≡ true
   digit : takes_digit r.digit (reg_field (from_modrm r s)) ≡ true
   whole : length s ≡ operand_length r m s
 
-operand_parts : (r : Row) (m : Marks) (o : ℕ) (s : List ℕ) (j : Insn) → spelled_operands r m o s ≡ Some j → OperandParts r m s
+operand_parts : (r : Form) (m : Marks) (o : ℕ) (s : List ℕ) (j : Insn) → spelled_operands r m o s ≡ Some j → OperandParts r m s
 operand_parts r m o s j e =
     let c = chosen (takes_marks r m && takes_modrm r m s && (length s == operand_length r m s)) (Some (meaning r.kind (operands_of r m o s))) j e in
     let w = both_true (takes_marks r m && takes_modrm r m s) _ c.0 in
@@ -193,9 +194,9 @@ operand_parts r m o s j e =
       whole = eqb-true (length s) (operand_length r m s) w.1;
     }
 
-first_byte : (r : Row) (m : Marks) (s : List ℕ) → has_modrm r.layout ≡ true → OperandParts r m s → 0 < length s
+first_byte : (r : Form) (m : Marks) (s : List ℕ) → has_modrm r.layout ≡ true → OperandParts r m s → 0 < length s
 first_byte r m s e w =
-    let n : operand_length r m s ≡ address_length s + immediate_length r.immediate (row_width r m) = ap (λ (v : Bool). immediate_place v s + immediate_length r.immediate (row_width r m)) e in
+    let n : operand_length r m s ≡ address_length s + immediate_length r.immediate (form_width r m) = ap (λ (v : Bool). immediate_place v s + immediate_length r.immediate (form_width r m)) e in
     omega (arith, w.whole, n, address_above s)
 
 digits_apart : (a b : Option ℕ) (n k : ℕ) → differ a b ≡ true → takes_digit a n ≡ true → takes_digit b k ≡ true → n ≡ k → ⊥
@@ -220,24 +221,24 @@ rows_apart : (r q : Row) (m : Marks) → apart r q ≡ true → Exclude (spelled
 rows_apart r q m h s t i j e f a =
     let w = row_parts r m s i e in
     let v = row_parts q m t j f in
-    let ow = operand_parts r m w.opcode w.operands i w.spells in
-    let ov = operand_parts q m v.opcode v.operands j v.spells in
+    let ow = operand_parts r.form m w.opcode w.operands i w.spells in
+    let ov = operand_parts q.form m v.opcode v.operands j v.spells in
     elim (either_true (clash (pattern r) (pattern q) || _) _ h) [
       | inl c ↦ elim (either_true (clash (pattern r) (pattern q)) _ c) [
         | inl p ↦ clash_apart (pattern r) (pattern q) s t p w.begins v.begins a
         | inr p ↦
-            let l2 = both_true (nat_eq (length (lead_bytes r.lead)) (length (lead_bytes q.lead)) && has_modrm r.layout && has_modrm q.layout) _ p in
-            let l1 = both_true (nat_eq (length (lead_bytes r.lead)) (length (lead_bytes q.lead)) && has_modrm r.layout) _ l2.0 in
+            let l2 = both_true (nat_eq (length (lead_bytes r.lead)) (length (lead_bytes q.lead)) && has_modrm r.form.layout && has_modrm q.form.layout) _ p in
+            let l1 = both_true (nat_eq (length (lead_bytes r.lead)) (length (lead_bytes q.lead)) && has_modrm r.form.layout) _ l2.0 in
             let l0 = both_true (nat_eq (length (lead_bytes r.lead)) (length (lead_bytes q.lead))) _ l1.0 in
             let whole : Agree (lead_bytes r.lead ++ w.opcode ∷ w.operands) (lead_bytes q.lead ++ v.opcode ∷ v.operands) =
                 subst (Agree (lead_bytes r.lead ++ w.opcode ∷ w.operands)) v.parts (subst (λ (u : List ℕ). Agree u t) w.parts a) in
             let behind = agree_behind (lead_bytes r.lead) (lead_bytes q.lead) (w.opcode ∷ w.operands) (v.opcode ∷ v.operands) (eqb-true _ _ l0.0) whole in
-            let byte : byte_at w.operands 0 ≡ byte_at v.operands 0 = agree_byte w.operands v.operands 0 behind.1 (first_byte r m w.operands l0.1 ow) (first_byte q m v.operands l1.1 ov) in
-            let fr : reg_field (from_modrm r w.operands) ≡ reg_field w.operands = ap (λ (b : Bool). reg_field (addressed b w.operands)) l0.1 in
-            let fq : reg_field (from_modrm q v.operands) ≡ reg_field v.operands = ap (λ (b : Bool). reg_field (addressed b v.operands)) l1.1 in
-            digits_apart r.digit q.digit _ _ l2.1 ow.digit ov.digit (fr ∙ ap (λ (b : ℕ). b / 8 % 8) byte ∙ sym fq)
+            let byte : byte_at w.operands 0 ≡ byte_at v.operands 0 = agree_byte w.operands v.operands 0 behind.1 (first_byte r.form m w.operands l0.1 ow) (first_byte q.form m v.operands l1.1 ov) in
+            let fr : reg_field (from_modrm r.form w.operands) ≡ reg_field w.operands = ap (λ (b : Bool). reg_field (addressed b w.operands)) l0.1 in
+            let fq : reg_field (from_modrm q.form v.operands) ≡ reg_field v.operands = ap (λ (b : Bool). reg_field (addressed b v.operands)) l1.1 in
+            digits_apart r.form.digit q.form.digit _ _ l2.1 ow.digit ov.digit (fr ∙ ap (λ (b : ℕ). b / 8 % 8) byte ∙ sym fq)
       ]
-      | inr c ↦ repeats_apart r.repeat q.repeat m.rep c ow.rep ov.rep
+      | inr c ↦ repeats_apart r.form.repeat q.form.repeat m.rep c ow.rep ov.rep
     ]
 
 -- ---- all rows

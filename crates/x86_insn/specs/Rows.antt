@@ -31,7 +31,12 @@ use Rattle.x86_insn.specs.declared.row.Row.{Row}
 -- and what the row spells
 abbrev pub row : Lead → ℕ → ℕ → Option ℕ → Layout → Immediate → Size → Bool → Repeat → Kind → Row
 row lead opcode span digit layout immediate size lock repeat kind =
-    record { lead = lead; opcode = opcode; span = span; digit = digit; layout = layout; immediate = immediate; size = size; lock = lock; repeat = repeat; kind = kind }
+    record {
+      lead = lead;
+      opcode = opcode;
+      span = span;
+      form = record { digit = digit; layout = layout; immediate = immediate; size = size; lock = lock; repeat = repeat; kind = kind };
+    }
 
 -- ADD, OR, ADC, SBB, AND, SUB, XOR and CMP: an operation and its number
 abbrev pub alu_rows : AluOp → ℕ → Bool → List Row

@@ -4,6 +4,7 @@ use Rattle.std.specs.Prelude.{◌≡◌, ℕ, ◌+◌, ◌*◌, ◌<◌, ◌≤�
 use Rattle.x86_insn.specs.declared.insn.Insn.{Insn}
 use Rattle.x86_insn.specs.declared.row.Layout.{Layout}
 use Rattle.x86_insn.specs.declared.row.Layout.TheVariants.{NoModrm, Any, Memory, Register}
+use Rattle.x86_insn.specs.declared.row.Form.{Form}
 use Rattle.x86_insn.specs.declared.row.Row.{Row}
 use Rattle.x86_insn.specs.declared.row.Marks.{Marks}
 use Rattle.x86_insn.specs.Prefixes.{may_stand_together, marks_of}
@@ -38,7 +39,7 @@ best (More n) (More m) = More (min n m)
 best (More n) Nothing = More n
 best Nothing s = s
 
--- the ModRM byte that a row takes and that fewest bytes follow
+-- the ModRM byte that a form takes and that fewest bytes follow
 abbrev pub mod_of : Layout → ℕ
 mod_of NoModrm = 0
 mod_of Any = 0
@@ -49,23 +50,23 @@ abbrev pub digit_of : Option ℕ → ℕ
 digit_of None = 0
 digit_of (Some d) = 8 * d
 
-abbrev pub seeded : Row → List ℕ → List ℕ
-seeded r [] = (mod_of r.layout + digit_of r.digit) ∷ []
-seeded r (b ∷ s) = b ∷ s
+abbrev pub seeded : Form → List ℕ → List ℕ
+seeded f [] = (mod_of f.layout + digit_of f.digit) ∷ []
+seeded f (b ∷ s) = b ∷ s
 
 abbrev pub sized : Insn → ℕ → ℕ → Scan
 sized i n len = elim (nat_le n len) [ true ↦ Found i n | false ↦ More n ]
 
-abbrev pub scan_operands : Row → Marks → ℕ → List ℕ → Scan
-scan_operands r m opcode s =
-    elim (takes_marks r m && takes_modrm r m (seeded r s)) [
-      | true ↦ sized (meaning r.kind (operands_of r m opcode s)) (operand_length r m (seeded r s)) (length s)
+abbrev pub scan_operands : Form → Marks → ℕ → List ℕ → Scan
+scan_operands f m opcode s =
+    elim (takes_marks f m && takes_modrm f m (seeded f s)) [
+      | true ↦ sized (meaning f.kind (operands_of f m opcode s)) (operand_length f m (seeded f s)) (length s)
       | false ↦ Nothing
     ]
 
 abbrev pub scan_opcode : Row → Marks → List ℕ → Scan
-scan_opcode r m [] = unseen (scan_operands r m r.opcode [])
-scan_opcode r m (b ∷ s) = elim (is_opcode r b) [ true ↦ later 1 (scan_operands r m b s) | false ↦ Nothing ]
+scan_opcode r m [] = unseen (scan_operands r.form m r.opcode [])
+scan_opcode r m (b ∷ s) = elim (is_opcode r b) [ true ↦ later 1 (scan_operands r.form m b s) | false ↦ Nothing ]
 
 abbrev pub scan_lead : List ℕ → (List ℕ → Scan) → List ℕ → Scan
 scan_lead [] go s = go s

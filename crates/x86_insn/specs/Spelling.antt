@@ -17,6 +17,7 @@ use Rattle.x86_insn.specs.declared.row.Size.{Size}
 use Rattle.x86_insn.specs.declared.row.Size.TheVariants.{Byte, Vary, Dword}
 use Rattle.x86_insn.specs.declared.row.Repeat.{Repeat}
 use Rattle.x86_insn.specs.declared.row.Repeat.TheVariants.{Never, Idle, Needed, Rep as Repeats, Repe}
+use Rattle.x86_insn.specs.declared.row.Form.{Form}
 use Rattle.x86_insn.specs.declared.row.Row.{Row}
 use Rattle.x86_insn.specs.declared.row.Marks.{Marks}
 use Rattle.x86_insn.specs.declared.row.Operands.{Operands}
@@ -118,38 +119,38 @@ abbrev pub immediate_place : Bool → List ℕ → ℕ
 immediate_place true s = address_length s
 immediate_place false s = 0
 
--- the bytes from ModRM on, of a row's operand bytes
+-- the bytes from ModRM on, of a form's operand bytes
 abbrev pub addressed : Bool → List ℕ → List ℕ
 addressed true s = s
 addressed false s = []
 
--- what follows describes the operand bytes s of a row under the prefixes' marks
-abbrev pub from_modrm : Row → List ℕ → List ℕ
-from_modrm r s = addressed (has_modrm r.layout) s
+-- what follows describes the operand bytes s of a form under the prefixes' marks
+abbrev pub from_modrm : Form → List ℕ → List ℕ
+from_modrm f s = addressed (has_modrm f.layout) s
 
-abbrev pub row_width : Row → Marks → Width
-row_width r m = width_of r.size m.word
+abbrev pub form_width : Form → Marks → Width
+form_width f m = width_of f.size m.word
 
-abbrev pub operand_length : Row → Marks → List ℕ → ℕ
-operand_length r m s = immediate_place (has_modrm r.layout) s + immediate_length r.immediate (row_width r m)
+abbrev pub operand_length : Form → Marks → List ℕ → ℕ
+operand_length f m s = immediate_place (has_modrm f.layout) s + immediate_length f.immediate (form_width f m)
 
--- the prefixes may stand before the row
-abbrev pub takes_marks : Row → Marks → Bool
-takes_marks r m = (not m.word || takes_word r.size) && takes_repeat r.repeat m.rep && (not m.lock || r.lock)
+-- the prefixes may stand before it
+abbrev pub takes_marks : Form → Marks → Bool
+takes_marks f m = (not m.word || takes_word f.size) && takes_repeat f.repeat m.rep && (not m.lock || f.lock)
 
--- ModRM is one of the row's; F0 asks for memory
-abbrev pub takes_modrm : Row → Marks → List ℕ → Bool
-takes_modrm r m s =
-    takes_digit r.digit (reg_field (from_modrm r s)) && takes_operand r.layout (names_memory (from_modrm r s)) && (not m.lock || names_memory (from_modrm r s))
+-- ModRM is one of the form's; F0 asks for memory
+abbrev pub takes_modrm : Form → Marks → List ℕ → Bool
+takes_modrm f m s =
+    takes_digit f.digit (reg_field (from_modrm f s)) && takes_operand f.layout (names_memory (from_modrm f s)) && (not m.lock || names_memory (from_modrm f s))
 
-abbrev pub operands_of : Row → Marks → ℕ → List ℕ → Operands
-operands_of r m opcode s = record {
-  width = row_width r m;
+abbrev pub operands_of : Form → Marks → ℕ → List ℕ → Operands
+operands_of f m opcode s = record {
+  width = form_width f m;
   marks = m;
   opcode = opcode;
-  reg = reg_of (reg_field (from_modrm r s));
-  rm = rm_of (from_modrm r s);
-  immediate = immediate_of r.immediate (row_width r m) s (immediate_place (has_modrm r.layout) s);
+  reg = reg_of (reg_field (from_modrm f s));
+  rm = rm_of (from_modrm f s);
+  immediate = immediate_of f.immediate (form_width f m) s (immediate_place (has_modrm f.layout) s);
 }
 
 abbrev pub is_opcode : Row → ℕ → Bool
@@ -168,23 +169,23 @@ pub record Spells (s : List ℕ) (i : Insn) : Type 0 where
   pub together : IsTrue (may_stand_together prefixes)
   pub listed : Contains rows row
   pub is_opcode : IsTrue (is_opcode row opcode)
-  pub marks : IsTrue (takes_marks row (marks_of prefixes))
-  pub modrm : IsTrue (takes_modrm row (marks_of prefixes) operands)
-  pub whole : length operands ≡ operand_length row (marks_of prefixes) operands
-  pub means : meaning row.kind (operands_of row (marks_of prefixes) opcode operands) ≡ i
+  pub marks : IsTrue (takes_marks row.form (marks_of prefixes))
+  pub modrm : IsTrue (takes_modrm row.form (marks_of prefixes) operands)
+  pub whole : length operands ≡ operand_length row.form (marks_of prefixes) operands
+  pub means : meaning row.form.kind (operands_of row.form (marks_of prefixes) opcode operands) ≡ i
 
--- the same as a function. What operand bytes spell by a row
-abbrev pub spelled_operands : Row → Marks → ℕ → List ℕ → Option Insn
-spelled_operands r m opcode s =
-    elim (takes_marks r m && takes_modrm r m s && (length s == operand_length r m s)) [
-      | true ↦ Some (meaning r.kind (operands_of r m opcode s))
+-- the same as a function. What operand bytes spell by a form
+abbrev pub spelled_operands : Form → Marks → ℕ → List ℕ → Option Insn
+spelled_operands f m opcode s =
+    elim (takes_marks f m && takes_modrm f m s && (length s == operand_length f m s)) [
+      | true ↦ Some (meaning f.kind (operands_of f m opcode s))
       | false ↦ None
     ]
 
 -- what the bytes from the opcode byte on spell by a row
 abbrev pub spelled_opcode : Row → Marks → List ℕ → Option Insn
 spelled_opcode r m [] = None
-spelled_opcode r m (b ∷ s) = elim (is_opcode r b) [ true ↦ spelled_operands r m b s | false ↦ None ]
+spelled_opcode r m (b ∷ s) = elim (is_opcode r b) [ true ↦ spelled_operands r.form m b s | false ↦ None ]
 
 -- what a test gives of the bytes behind a lead
 abbrev pub behind_lead : List ℕ → (List ℕ → Option Insn) → List ℕ → Option Insn

@@ -150,14 +150,9 @@ pub enum Kind {
     Ud2,
 }
 
-/// A row of the spelling table.
+/// What follows a row's opcode byte, which prefixes may stand before it, and what it spells.
 #[derive(Clone, Copy)]
-pub struct Row {
-    pub lead: Lead,
-    /// The first opcode byte.
-    pub opcode: u8,
-    /// How many opcode bytes there are from it on: 8 where a register is added, 16 where a condition is.
-    pub span: u8,
+pub struct Form {
     /// What ModRM's reg field has to be; none where it names a register, or where there is no ModRM byte.
     pub digit: Option<u8>,
     pub layout: Layout,
@@ -167,6 +162,17 @@ pub struct Row {
     pub lock: bool,
     pub repeat: Repeat,
     pub kind: Kind,
+}
+
+/// A row of the spelling table.
+#[derive(Clone, Copy)]
+pub struct Row {
+    pub lead: Lead,
+    /// The first opcode byte.
+    pub opcode: u8,
+    /// How many opcode bytes there are from it on: 8 where a register is added, 16 where a condition is.
+    pub span: u8,
+    pub form: Form,
 }
 
 /// What the prefixes of an instruction set.
