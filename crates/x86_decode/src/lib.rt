@@ -1,0 +1,4 @@
+//! The decoder of the spelling table: what a list of bytes begins with.
+#![tactic(auto)]
+
+mod opcode_map;
