@@ -1,6 +1,6 @@
 -- What bytes come to, read from the left: the instruction that they begin with, or how many bytes they lack. This
 -- project's own; it is the spelling table as a walk over bytes, which `Scanned` ties to what is spelled.
-use Rattle.std.specs.Prelude.{◌≡◌, ℕ, ◌+◌, ◌*◌, ◌<◌, ◌≤◌, min, true, false, ◌&&◌, List, [], ◌∷◌, ◌++◌, length, take, Option, Some, None, nat_eq, nat_le}
+use Rattle.std.specs.Prelude.{◌≡◌, ℕ, ◌+◌, ◌*◌, ◌%◌, ◌<◌, ◌≤◌, min, true, false, ◌&&◌, List, [], ◌∷◌, ◌++◌, length, take, Option, Some, None, nat_eq, nat_le}
 use Rattle.x86_insn.specs.declared.insn.Insn.{Insn}
 use Rattle.x86_insn.specs.declared.row.Layout.{Layout}
 use Rattle.x86_insn.specs.declared.row.Layout.TheVariants.{NoModrm, Any, Memory, Register}
@@ -48,7 +48,7 @@ mod_of Register = 0xC0
 
 abbrev pub digit_of : Option ℕ → ℕ
 digit_of None = 0
-digit_of (Some d) = 8 * d
+digit_of (Some d) = 8 * (d % 8)
 
 abbrev pub seeded : Form → List ℕ → List ℕ
 seeded f [] = (mod_of f.layout + digit_of f.digit) ∷ []
