@@ -2,5 +2,7 @@
 #![tactic(auto)]
 
 mod address;
+mod form;
+mod meaning;
 mod opcode_map;
 mod reading;
