@@ -14,6 +14,7 @@ use Rattle.x86_insn.specs.declared.insn.Rm.TheVariants as rm
 use Rattle.x86_insn.specs.declared.insn.Src.TheVariants as src
 use Rattle.x86_insn.specs.declared.insn.Width.TheVariants.{D}
 use Rattle.x86_insn.specs.Flow.{flow_of}
+use Rattle.x86_insn.specs.Rows.{rows}
 use Rattle.x86_insn.specs.Spelling.{spelled, decoded}
 use Rattle.x86_insn.specs.State.{State, Next}
 use Rattle.x86_insn.specs.declared.registers.Core.{Core}
@@ -93,7 +94,7 @@ stands a y n bytes i first there long spells =
 
 -- `mov eax,1`
 first_spelled : spelled (0xB8 ∷ 1 ∷ 0 ∷ 0 ∷ 0 ∷ []) ≡ Some (Mov D (rm.R Eax) (src.Imm 1))
-unfolding spelled
+unfolding spelled rows
 first_spelled = refl
 
 first_found : fetch memory 0x08048054 ≡ Found (Mov D (rm.R Eax) (src.Imm 1)) 5
@@ -102,7 +103,7 @@ first_found = stands 0x08048054 0xB8 5 (0xB8 ∷ 1 ∷ 0 ∷ 0 ∷ 0 ∷ 0xBB �
 
 -- `mov ebx,7`
 second_spelled : spelled (0xBB ∷ 7 ∷ 0 ∷ 0 ∷ 0 ∷ []) ≡ Some (Mov D (rm.R Ebx) (src.Imm 7))
-unfolding spelled
+unfolding spelled rows
 second_spelled = refl
 
 second_found : fetch memory 0x08048059 ≡ Found (Mov D (rm.R Ebx) (src.Imm 7)) 5
@@ -111,7 +112,7 @@ second_found = stands 0x08048059 0xBB 5 (0xBB ∷ 7 ∷ 0 ∷ 0 ∷ 0 ∷ 0xCD �
 
 -- `int 0x80`
 third_spelled : spelled (0xCD ∷ 0x80 ∷ []) ≡ Some Int80
-unfolding spelled
+unfolding spelled rows
 third_spelled = refl
 
 third_found : fetch memory 0x0804805E ≡ Found Int80 2

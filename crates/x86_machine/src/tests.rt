@@ -23,7 +23,8 @@ const HEAD: [u8; 84] = [
 /// A file of this code.
 fn file(alloc: Global, code: &[u8]) -> Result<Vec<u8>, Fail> {
     let mut bytes = Vec::from_slice(alloc, &HEAD)?;
-    let len = (code.len() as u32).to_le_bytes();
+    let len = u32::try_from(code.len()).ok().ok_or("a length")?;
+    let len = len.to_le_bytes();
     bytes[68..72].copy_from_slice(&len);
     bytes[72..76].copy_from_slice(&len);
     bytes.extend_from_slice(code)?;
