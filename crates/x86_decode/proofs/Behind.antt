@@ -1,6 +1,6 @@
 -- A byte of the opcode maps: what bytes come to is what the bytes behind the first come to by the rows behind it.
-use Rattle.std.proofs.Common.{◌≡◌, ◌≢◌, ℕ, zero, suc, ◌+◌, Bool, true, false, not, ◌&&◌, ◌⊎◌, List, [], ◌∷◌, ◌++◌, Option, Some, None, refl, sym, ◌∙◌, ap, ap₂, subst, arith}
-use Rattle.std.specs.Prelude.{nat_eq, option_to_list, if◌then◌else◌}
+use Rattle.std.proofs.Common.{◌≡◌, ◌≢◌, ℕ, Bool, true, false, not, ◌&&◌, List, [], ◌∷◌, refl, sym, ◌∙◌, ap, arith}
+use Rattle.std.specs.Prelude.{nat_eq, if◌then◌else◌}
 use Rattle.std.proofs.lemmas.Bool.{eqb-true}
 use Rattle.std.proofs.lemmas.Bool.Decides.{nat_tests}
 use Rattle.x86_insn.specs.declared.row.Form.{Form}
@@ -9,9 +9,9 @@ use Rattle.x86_insn.specs.declared.row.Marks.{Marks}
 use Rattle.x86_insn.specs.Prefixes.{is_among}
 use Rattle.x86_insn.specs.Rows.{rows}
 use Rattle.x86_insn.specs.Spelling.{is_opcode}
-use Rattle.x86_insn.specs.Scanning.{Scan, Found, More, Nothing, later, best, scan_operands, scan_opcode, scan_lead, scan_row, scan_rows}
+use Rattle.x86_insn.specs.Scanning.{Scan, Nothing, later, best, scan_operands, scan_opcode, scan_lead, scan_row, scan_rows}
 use Rattle.x86_insn.specs.Agreeing.{both_true, true_not_false}
-use Rattle.x86_decode.specs.Candidates.{Rest, whole_rows, keep_lead, behind_byte, behind_bytes, rows_behind, keep_form, forms_at, scan_rest, scan_forms, groups, is_group, group_at, single_at}
+use Rattle.x86_decode.specs.Candidates.{Rest, whole_rows, keep_lead, behind_byte, rows_behind, keep_form, forms_at, scan_rest, scan_forms, is_group, group_at, single_at}
 use Rattle.x86_decode.proofs.Best.{best_nothing, best_later}
 
 rest_of_rows : (rs : List Row) (m : Marks) (s : List ℕ) → scan_rest (whole_rows rs) m s ≡ scan_rows rs m s

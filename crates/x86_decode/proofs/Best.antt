@@ -1,5 +1,5 @@
 -- The best of several scans of the same bytes.
-use Rattle.std.proofs.Common.{◌≡◌, ℕ, zero, suc, ◌+◌, ◌<◌, ◌≤◌, min, List, [], ◌∷◌, length, get_or, drop, refl, sym, ◌∙◌, ap, arith, drop-cons, drop_of_length-le}
+use Rattle.std.proofs.Common.{◌≡◌, ℕ, suc, ◌+◌, ◌<◌, ◌≤◌, List, length, get_or, drop, refl, sym, ◌∙◌, ap, arith, drop-cons, drop_of_length-le}
 use Rattle.x86_insn.specs.declared.row.Form.{Form}
 use Rattle.x86_insn.specs.declared.row.Marks.{Marks}
 use Rattle.x86_insn.specs.Scanning.{Scan, Found, More, Nothing, later, best, scan_operands}
@@ -43,7 +43,7 @@ pub scan_step : (forms : List Form) (m : Marks) (opcode : ℕ) (s : List ℕ) (k
 scan_step forms m opcode s k d whole a r q h e f g =
     let next : suc k ≡ k + 1 = omega arith in
     let rest : scan_forms (drop k forms) m opcode s ≡ best q (scan_forms (drop (k + 1) forms) m opcode s) =
-        ap (λ (fs : List Form). scan_forms fs m opcode s) (drop-cons forms k d h) ∙ ap (λ (x : Scan). best x (scan_forms (drop (suc k) forms) m opcode s)) (sym f) ∙ ap (λ (j : ℕ). best q (scan_forms (drop j forms) m opcode s)) next in
+    ap (λ (fs : List Form). scan_forms fs m opcode s) (drop-cons forms k d h) ∙ ap (λ (x : Scan). best x (scan_forms (drop (suc k) forms) m opcode s)) (sym f) ∙ ap (λ (j : ℕ). best q (scan_forms (drop j forms) m opcode s)) next in
     ap (λ (x : Scan). best x (scan_forms (drop (k + 1) forms) m opcode s)) g ∙ best_assoc a q (scan_forms (drop (k + 1) forms) m opcode s) ∙ ap (best a) (sym rest) ∙ e
 
 pub scan_end : (forms : List Form) (m : Marks) (opcode : ℕ) (s : List ℕ) (k : ℕ) (whole a : Scan) → length forms ≤ k → best a (scan_forms (drop k forms) m opcode s) ≡ whole → a ≡ whole

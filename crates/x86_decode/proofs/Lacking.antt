@@ -1,8 +1,7 @@
 -- How many bytes are lacking where an opcode byte is missing, by the prefixes.
-use Rattle.std.proofs.Common.{◌≡◌, ℕ, Bool, true, false, List, [], ◌∷◌, refl}
+use Rattle.std.proofs.Common.{◌≡◌, Bool, true, false, [], ◌∷◌, refl}
 use Rattle.x86_insn.specs.declared.insn.Rep.{Rep}
 use Rattle.x86_insn.specs.declared.insn.Rep.TheVariants.{Once, F3, F2}
-use Rattle.x86_insn.specs.declared.row.Marks.{Marks}
 use Rattle.x86_insn.specs.Rows.{rows}
 use Rattle.x86_insn.specs.Scanning.{Scan, More, Nothing}
 use Rattle.x86_decode.specs.Candidates.{rows_behind, scan_rest}

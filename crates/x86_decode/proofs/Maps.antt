@@ -1,5 +1,5 @@
 -- A part of an opcode map has at each place the forms that the spelling table has there.
-use Rattle.std.proofs.Common.{◌≡◌, ℕ, zero, suc, ◌+◌, ◌<◌, List, [], ◌∷◌, map, Option, slice_index_or, refl, sym, ◌∙◌, ap, arith}
+use Rattle.std.proofs.Common.{◌≡◌, ℕ, zero, suc, ◌+◌, ◌<◌, List, [], ◌∷◌, map, Option, slice_index_or, ◌∙◌, ap, arith}
 use Rattle.std.specs.Prelude.{option_to_list}
 use Rattle.x86_insn.specs.declared.row.Form.{Form}
 use Rattle.x86_decode.specs.Candidates.{single_at}

@@ -1,6 +1,6 @@
 -- The scan of whole bytes, by their prefixes and what follows them; and what decoding makes of it.
-use Rattle.std.proofs.Common.{◌≡◌, ℕ, zero, suc, ◌+◌, ◌<◌, ◌≤◌, ◌⊎◌, min, Bool, true, false, List, [], ◌∷◌, ◌++◌, length, take, drop, Option, Some, None, get_or, refl, sym, ◌∙◌, ap, ap₂, subst, inl, inr, arith, take_all, length-append, length-take, take-append-drop, rules}
-use Rattle.std.specs.Prelude.{IsSome, slice_index}
+use Rattle.std.proofs.Common.{◌≡◌, ℕ, zero, suc, ◌≤◌, min, Bool, true, false, List, [], ◌∷◌, ◌++◌, length, take, drop, Option, Some, None, refl, sym, ◌∙◌, ap, ap₂, inl, inr, arith, take_all, length-append, length-take, take-append-drop, rules}
+use Rattle.std.specs.Prelude.{IsSome}
 use Rattle.std.proofs.Math.Seq.{take-append_seam}
 use Rattle.std.proofs.lemmas.Bool.{cases_lt}
 use Rattle.mv_base.specs.Bytes.{AreBytes}
@@ -8,10 +8,10 @@ use Rattle.x86_insn.specs.declared.insn.Insn.{Insn}
 use Rattle.x86_insn.specs.declared.row.Marks.{Marks}
 use Rattle.x86_insn.specs.Prefixes.{may_stand_together, marks_of}
 use Rattle.x86_insn.specs.Rows.{rows}
-use Rattle.x86_insn.specs.Spelling.{front, body, are_bytes, spelled, decoded}
+use Rattle.x86_insn.specs.Spelling.{front, body, are_bytes, spelled}
 use Rattle.x86_insn.specs.Scanning.{Scan, Found, More, Nothing, later, scan, scan_rows}
 use Rattle.x86_insn.specs.PrefixScan.{split}
-use Rattle.x86_insn.specs.Laws.{bytes_tested, decoded_take, scan_found, scan_more, scan_exceeds, Exceeds, IsLong, long_none, long_ends, Limited, limited_of, Begins}
+use Rattle.x86_insn.specs.Laws.{bytes_tested, decoded_take, scan_found, scan_more, scan_exceeds, Exceeds, IsLong, long_none, long_ends, limited_of}
 use Rattle.x86_decode.specs.Candidates.{rows_behind, scan_rest}
 use Rattle.x86_decode.specs.Decoding.{IsDecoded, BeginsSpelling}
 use Rattle.x86_decode.specs.declared.decoding.Decoded.TheVariants as decoded_as

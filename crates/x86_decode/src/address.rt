@@ -123,13 +123,7 @@ fn displacement_bytes(mode: u8, has_base: bool) -> usize
     ensures at_most { result ≤ 4 }
 {
     match mode {
-        0 => {
-            if has_base {
-                0
-            } else {
-                4
-            }
-        }
+        0 => { if has_base { 0 } else { 4 } }
         1 => 1,
         2 => 4,
         _ => 0,

@@ -20,13 +20,7 @@ fn width_of(size: Size, word: bool) -> Width
 {
     match size {
         Size::Byte => Width::B,
-        Size::Vary => {
-            if word {
-                Width::W
-            } else {
-                Width::D
-            }
-        }
+        Size::Vary => { if word { Width::W } else { Width::D } }
         Size::Dword => Width::D,
     }
 }

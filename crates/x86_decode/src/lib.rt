@@ -13,5 +13,7 @@ mod meaning;
 mod opcode_map;
 mod prefixes;
 mod reading;
+#[cfg(test)]
+mod tests;
 
 pub use decoding::{Decoded, decode};

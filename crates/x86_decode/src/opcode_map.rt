@@ -136,97 +136,194 @@ const NONE: Option<Form> = None;
 
 // Moves.
 const STORE_8: Option<Form> = Some(modrm!(Kind::MovRmReg, Absent, Byte, false));
+
 const STORE: Option<Form> = Some(modrm!(Kind::MovRmReg, Absent, Vary, false));
+
 const LOAD_8: Option<Form> = Some(modrm!(Kind::MovRegRm, Absent, Byte, false));
+
 const LOAD: Option<Form> = Some(modrm!(Kind::MovRegRm, Absent, Vary, false));
+
 const LOAD_AL: Option<Form> = Some(plain!(Kind::MovAccAt, Id, Byte));
+
 const LOAD_ACC: Option<Form> = Some(plain!(Kind::MovAccAt, Id, Vary));
+
 const STORE_AL: Option<Form> = Some(plain!(Kind::MovAtAcc, Id, Byte));
+
 const STORE_ACC: Option<Form> = Some(plain!(Kind::MovAtAcc, Id, Vary));
+
 const SET_8: Option<Form> = Some(plain!(Kind::MovRegImm, Ib, Byte));
+
 const SET: Option<Form> = Some(plain!(Kind::MovRegImm, Iz, Vary));
+
 const MOV_C6: Option<Form> = Some(digit!(0, Kind::MovRmImm, Ib, Byte, false));
+
 const MOV_C7: Option<Form> = Some(digit!(0, Kind::MovRmImm, Iz, Vary, false));
+
 const XCHG_8: Option<Form> = Some(modrm!(Kind::XchgRmReg, Absent, Byte, true));
+
 const XCHG: Option<Form> = Some(modrm!(Kind::XchgRmReg, Absent, Vary, true));
+
 const XCHG_ACC: Option<Form> = Some(plain!(Kind::XchgRegAcc, Absent, Vary));
+
 const LEA: Option<Form> = Some(form!(Kind::Lea, Memory, Absent, Vary, false, Never, None));
+
 const MOVZX_8: Option<Form> = Some(modrm!(Kind::Movx(false, Width::B), Absent, Vary, false));
+
 const MOVZX_16: Option<Form> = Some(modrm!(Kind::Movx(false, Width::W), Absent, Dword, false));
+
 const MOVSX_8: Option<Form> = Some(modrm!(Kind::Movx(true, Width::B), Absent, Vary, false));
+
 const MOVSX_16: Option<Form> = Some(modrm!(Kind::Movx(true, Width::W), Absent, Dword, false));
+
 const BSWAP: Option<Form> = Some(plain!(Kind::Bswap, Absent, Dword));
+
 const CMOV: Option<Form> = Some(modrm!(Kind::Cmov, Absent, Vary, false));
+
 const SETCC: Option<Form> = Some(digit!(0, Kind::Set, Absent, Byte, false));
+
 const XLAT: Option<Form> = Some(plain!(Kind::Xlat, Absent, Dword));
 
 // The stack.
 const PUSH: Option<Form> = Some(plain!(Kind::PushReg, Absent, Dword));
+
 const PUSH_ID: Option<Form> = Some(plain!(Kind::PushImm, Id, Dword));
+
 const PUSH_IB: Option<Form> = Some(plain!(Kind::PushImm, SignedIb, Dword));
+
 const POP: Option<Form> = Some(plain!(Kind::PopReg, Absent, Dword));
+
 const POP_RM: Option<Form> = Some(digit!(0, Kind::PopRm, Absent, Dword, false));
+
 const PUSHAD: Option<Form> = Some(plain!(Kind::Pushad, Absent, Dword));
+
 const POPAD: Option<Form> = Some(plain!(Kind::Popad, Absent, Dword));
+
 const PUSHFD: Option<Form> = Some(plain!(Kind::Pushfd, Absent, Dword));
+
 const POPFD: Option<Form> = Some(plain!(Kind::Popfd, Absent, Dword));
+
 const LEAVE: Option<Form> = Some(plain!(Kind::Leave, Absent, Dword));
 
 // Arithmetic.
 static GROUP_80: [Form; 8] = arithmetic!(Ib, Byte);
+
 static GROUP_81: [Form; 8] = arithmetic!(Iz, Vary);
+
 static GROUP_83: [Form; 8] = arithmetic!(SignedIb, Vary);
+
 const TEST_8: Option<Form> = Some(modrm!(Kind::TestRmReg, Absent, Byte, false));
+
 const TEST: Option<Form> = Some(modrm!(Kind::TestRmReg, Absent, Vary, false));
+
 const TEST_AL: Option<Form> = Some(plain!(Kind::TestAccImm, Ib, Byte));
+
 const TEST_ACC: Option<Form> = Some(plain!(Kind::TestAccImm, Iz, Vary));
+
 const INC: Option<Form> = Some(plain!(Kind::BumpReg(true), Absent, Vary));
+
 const DEC: Option<Form> = Some(plain!(Kind::BumpReg(false), Absent, Vary));
+
 static GROUP_F6: [Form; 7] = unary!(Ib, Byte);
+
 static GROUP_F7: [Form; 7] = unary!(Iz, Vary);
-static GROUP_FE: [Form; 2] = [digit!(0, Kind::BumpRm(true), Absent, Byte, true), digit!(1, Kind::BumpRm(false), Absent, Byte, true)];
-static GROUP_FF: [Form; 5] = [digit!(6, Kind::PushRm, Absent, Dword, false), digit!(0, Kind::BumpRm(true), Absent, Vary, true), digit!(1, Kind::BumpRm(false), Absent, Vary, true), digit!(4, Kind::JumpVia, Absent, Dword, false), digit!(2, Kind::CallVia, Absent, Dword, false)];
+
+static GROUP_FE: [Form; 2] = [
+    digit!(0, Kind::BumpRm(true), Absent, Byte, true),
+    digit!(1, Kind::BumpRm(false), Absent, Byte, true),
+];
+
+static GROUP_FF: [Form; 5] = [
+    digit!(6, Kind::PushRm, Absent, Dword, false),
+    digit!(0, Kind::BumpRm(true), Absent, Vary, true),
+    digit!(1, Kind::BumpRm(false), Absent, Vary, true),
+    digit!(4, Kind::JumpVia, Absent, Dword, false),
+    digit!(2, Kind::CallVia, Absent, Dword, false),
+];
+
 const IMUL: Option<Form> = Some(modrm!(Kind::ImulRegRm, Absent, Vary, false));
+
 const IMUL_IZ: Option<Form> = Some(modrm!(Kind::ImulRegRmImm, Iz, Vary, false));
+
 const IMUL_IB: Option<Form> = Some(modrm!(Kind::ImulRegRmImm, SignedIb, Vary, false));
+
 static GROUP_C0: [Form; 7] = shifts!(ShiftImm, Ib, Byte);
+
 static GROUP_C1: [Form; 7] = shifts!(ShiftImm, Ib, Vary);
+
 static GROUP_D0: [Form; 7] = shifts!(ShiftOne, Absent, Byte);
+
 static GROUP_D1: [Form; 7] = shifts!(ShiftOne, Absent, Vary);
+
 static GROUP_D2: [Form; 7] = shifts!(ShiftCl, Absent, Byte);
+
 static GROUP_D3: [Form; 7] = shifts!(ShiftCl, Absent, Vary);
+
 const SHLD_IB: Option<Form> = Some(modrm!(Kind::DoubleImm(true), Ib, Dword, false));
+
 const SHLD_CL: Option<Form> = Some(modrm!(Kind::DoubleCl(true), Absent, Dword, false));
+
 const SHRD_IB: Option<Form> = Some(modrm!(Kind::DoubleImm(false), Ib, Dword, false));
+
 const SHRD_CL: Option<Form> = Some(modrm!(Kind::DoubleCl(false), Absent, Dword, false));
-static GROUP_BA: [Form; 4] = [digit!(4, Kind::BitImm(BitOp::Bt), Ib, Vary, false), digit!(5, Kind::BitImm(BitOp::Bts), Ib, Vary, true), digit!(6, Kind::BitImm(BitOp::Btr), Ib, Vary, true), digit!(7, Kind::BitImm(BitOp::Btc), Ib, Vary, true)];
+
+static GROUP_BA: [Form; 4] = [
+    digit!(4, Kind::BitImm(BitOp::Bt), Ib, Vary, false),
+    digit!(5, Kind::BitImm(BitOp::Bts), Ib, Vary, true),
+    digit!(6, Kind::BitImm(BitOp::Btr), Ib, Vary, true),
+    digit!(7, Kind::BitImm(BitOp::Btc), Ib, Vary, true),
+];
+
 const BSF: Option<Form> = Some(modrm!(Kind::Scan(true), Absent, Vary, false));
+
 const BSR: Option<Form> = Some(modrm!(Kind::Scan(false), Absent, Vary, false));
+
 const CMPXCHG_8: Option<Form> = Some(modrm!(Kind::Cmpxchg, Absent, Byte, true));
+
 const CMPXCHG: Option<Form> = Some(modrm!(Kind::Cmpxchg, Absent, Vary, true));
+
 const XADD_8: Option<Form> = Some(modrm!(Kind::Xadd, Absent, Byte, true));
+
 const XADD: Option<Form> = Some(modrm!(Kind::Xadd, Absent, Vary, true));
+
 const CBW: Option<Form> = Some(plain!(Kind::Cbw, Absent, Vary));
+
 const CWD: Option<Form> = Some(plain!(Kind::Cwd, Absent, Vary));
 
 // Flags and hints.
 const SAHF: Option<Form> = Some(plain!(Kind::Sahf, Absent, Dword));
+
 const LAHF: Option<Form> = Some(plain!(Kind::Lahf, Absent, Dword));
-static GROUP_90: [Form; 2] = [plain!(Kind::Nop, Absent, Vary), form!(Kind::Pause, NoModrm, Absent, Dword, false, Needed, None)];
+
+static GROUP_90: [Form; 2] = [
+    plain!(Kind::Nop, Absent, Vary),
+    form!(Kind::Pause, NoModrm, Absent, Dword, false, Needed, None),
+];
+
 const NOP_RM: Option<Form> = Some(digit!(0, Kind::Nop, Absent, Vary, false));
+
 const ENDBR: Option<Form> = Some(form!(Kind::Endbr, NoModrm, Absent, Dword, false, Needed, None));
 
 // Transfers.
 const JCC: Option<Form> = Some(plain!(Kind::Branch, SignedIb, Dword));
+
 const JCC_ID: Option<Form> = Some(plain!(Kind::Branch, Id, Dword));
+
 const JMP_ID: Option<Form> = Some(plain!(Kind::Jump, Id, Dword));
+
 const JMP_IB: Option<Form> = Some(plain!(Kind::Jump, SignedIb, Dword));
+
 const CALL: Option<Form> = Some(plain!(Kind::Call, Id, Dword));
+
 const RET_IW: Option<Form> = Some(form!(Kind::Ret, NoModrm, Iw, Dword, false, Idle, None));
+
 const RET: Option<Form> = Some(form!(Kind::Ret, NoModrm, Absent, Dword, false, Idle, None));
+
 const INT80: Option<Form> = Some(plain!(Kind::Int80, Absent, Dword));
+
 const INT3: Option<Form> = Some(plain!(Kind::Int3, Absent, Dword));
+
 const HLT: Option<Form> = Some(plain!(Kind::Hlt, Absent, Dword));
+
 const UD2: Option<Form> = Some(plain!(Kind::Ud2, Absent, Dword));
 
 // The one-byte opcodes that have one form, 00 to 3F.

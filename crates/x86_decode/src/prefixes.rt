@@ -52,7 +52,11 @@ pub fn prefix_count(bytes: &[u8]) -> usize
 fn at_most_one(group: &[u8], prefixes: &[u8]) -> bool
     ensures { result ≡ at_most_one group.now prefixes.now }
 {
-    group.iter().filter(|prefix| is_among(prefixes, **prefix)).count() <= 1
+    group
+        .iter()
+        .filter(|prefix| is_among(prefixes, **prefix))
+        .count()
+        <= 1
 }
 
 /// At most one prefix of each group stands.

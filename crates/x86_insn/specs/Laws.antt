@@ -1,25 +1,24 @@
 -- Laws of the spelling table: a byte list spells one instruction, no spelling is a proper front of another, and what
 -- bytes decode to. They speak of no row.
-use Rattle.std.specs.Prelude.{◌≡◌, ℕ, zero, suc, ◌+◌, ◌-◌, ◌*◌, ◌/◌, ◌%◌, ◌^◌, ◌<◌, ◌≤◌, Bool, true, false, ◌&&◌, ◌⊎◌, List, [], ◌∷◌, ◌++◌, length, take, Contains, slice_index, slice_index_or, Option, Some, None, IsTrue, refl, nat_le, nat_lt, ◌==◌}
-use Rattle.std.proofs.Common.{sym, ◌∙◌, ap, ap₂, subst, inl, inr, arith, take-take, length-take-le, take_all, append_assoc, append-nil}
+use Rattle.std.specs.Prelude.{◌≡◌, ℕ, zero, suc, ◌+◌, ◌*◌, ◌/◌, ◌%◌, ◌^◌, ◌<◌, ◌≤◌, Bool, true, false, ◌&&◌, List, [], ◌∷◌, ◌++◌, length, take, Contains, slice_index_or, Option, Some, None, refl, nat_le, nat_lt}
+use Rattle.std.proofs.Common.{sym, ◌∙◌, ap, subst, inl, inr, arith, take-take, length-take-le, take_all, append_assoc, append-nil}
 use Rattle.std.proofs.lemmas.List.{length-append, length-take, nil_from_length}
 use Rattle.std.proofs.lemmas.Option.{same_Some, some_pair_parts}
-use Rattle.std.proofs.lemmas.Bool.{leb-true, le-leb, eqb-true, eq-eqb, cases_lt}
+use Rattle.std.proofs.lemmas.Bool.{leb-true, le-leb, eq-eqb, cases_lt}
 use Rattle.mv_base.specs.Bytes.{AreBytes, word}
 use Rattle.x86_insn.specs.declared.insn.Insn.{Insn}
 use Rattle.x86_insn.specs.declared.insn.Insn.TheVariants.{Jump}
 use Rattle.x86_insn.specs.declared.row.Row.{Row}
 use Rattle.x86_insn.specs.declared.row.Marks.{Marks}
 use Rattle.x86_insn.specs.Addressing.{dword_at}
-use Rattle.x86_insn.specs.Prefixes.{are_prefixes, may_stand_together, marks_of}
-use Rattle.x86_insn.specs.Meaning.{meaning}
+use Rattle.x86_insn.specs.Prefixes.{may_stand_together, marks_of}
 use Rattle.x86_insn.specs.Rows.{rows}
-use Rattle.x86_insn.specs.Spelling.{lead_bytes, is_opcode, takes_marks, takes_modrm, operand_length, operands_of, spelled_operands, spelled_opcode, behind_lead, spelled_row, spelled_rows, front, body, are_bytes, Spells, spelled, or_else, with_len, first_spelled, decoded}
+use Rattle.x86_insn.specs.Spelling.{lead_bytes, is_opcode, spelled_operands, spelled_opcode, behind_lead, spelled_row, spelled_rows, front, body, are_bytes, Spells, spelled, or_else, with_len, first_spelled, decoded}
 use Rattle.x86_insn.specs.Scanning.{Scan, Found, More, Nothing, scan, Agree, IsScan}
 use Rattle.x86_insn.specs.Agreeing.{chosen, both_true, and_true, or_cases, or_left, or_right, agree_self, take_agrees, append_agrees}
-use Rattle.x86_insn.specs.OperandScan.{Fits, fits_of, spelled_of}
-use Rattle.x86_insn.specs.RowScan.{are_apart, apart_from, is_sound, RowParts, row_parts, exclude_rows, table_is_apart}
-use Rattle.x86_insn.specs.PrefixScan.{unlimited, UnlimitedParts, unlimited_parts, unlimited_of, split, front_are_prefixes, scan_right}
+use Rattle.x86_insn.specs.OperandScan.{fits_of, spelled_of}
+use Rattle.x86_insn.specs.RowScan.{are_apart, apart_from, is_sound, row_parts, exclude_rows, table_is_apart}
+use Rattle.x86_insn.specs.PrefixScan.{unlimited, unlimited_parts, unlimited_of, split, front_are_prefixes, scan_right}
 
 -- ---- bytes
 
@@ -174,9 +173,9 @@ decoded_of n bytes i e l =
     let len : length (take n bytes) ≡ n = length-take-le n bytes l in
     let v = unlimited_parts (take n bytes) i w.spells in
     first_is bytes 1 15 i n (omega (arith, len, v.size, ap length v.head.parts)) (omega (arith, len, w.limit)) e (λ j a b. none_by (spelled (take j bytes)) (λ k f.
-        let q = limited_of (take j bytes) k f in
-        let same = one_length bytes (take j bytes) (take n bytes) k i (scan bytes) (scan_right bytes) q.spells w.spells (take_agrees j bytes) (take_agrees n bytes) (omega (arith, length-take-le j bytes (omega arith))) in
-        omega (arith, same, len, length-take-le j bytes (omega arith))))
+    let q = limited_of (take j bytes) k f in
+    let same = one_length bytes (take j bytes) (take n bytes) k i (scan bytes) (scan_right bytes) q.spells w.spells (take_agrees j bytes) (take_agrees n bytes) (omega (arith, length-take-le j bytes (omega arith))) in
+    omega (arith, same, len, length-take-le j bytes (omega arith))))
 
 first_found : (s : List ℕ) (k n : ℕ) (i : Insn) (m : ℕ) → first_spelled k n s ≡ Some (i, m) → (k ≤ m) × (m < k + n) × (spelled (take m s) ≡ Some i)
 unfolding first_spelled

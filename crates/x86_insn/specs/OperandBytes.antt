@@ -1,6 +1,6 @@
 -- What operand bytes name depends on the bytes that they have alone, and a byte that is missing counts as 0.
-use Rattle.std.specs.Prelude.{◌≡◌, ℕ, zero, suc, ◌+◌, ◌-◌, ◌*◌, ◌/◌, ◌%◌, ◌^◌, ◌<◌, ◌≤◌, Bool, true, false, not, ◌&&◌, ◌||◌, ◌⊎◌, List, [], ◌∷◌, length, Option, Some, None, refl, nat_eq, ◌==◌, if◌then◌else◌}
-use Rattle.std.proofs.Common.{sym, ◌∙◌, ap, ap₂, subst, inl, inr, arith}
+use Rattle.std.specs.Prelude.{◌≡◌, ℕ, zero, suc, ◌+◌, ◌*◌, ◌/◌, ◌%◌, ◌^◌, ◌<◌, ◌≤◌, Bool, true, false, not, ◌&&◌, ◌||◌, ◌⊎◌, List, [], Option, Some, None, refl, ◌==◌, if◌then◌else◌}
+use Rattle.std.proofs.Common.{sym, ◌∙◌, ap, ap₂, inl, inr, arith}
 use Rattle.x86_insn.specs.declared.insn.Reg.{Reg}
 use Rattle.x86_insn.specs.declared.insn.Mem.{Mem}
 use Rattle.x86_insn.specs.declared.insn.Rm.{Rm}
@@ -12,7 +12,7 @@ use Rattle.x86_insn.specs.declared.row.Immediate.TheVariants.{Absent, Ib, Signed
 use Rattle.x86_insn.specs.declared.row.Form.{Form}
 use Rattle.x86_insn.specs.declared.row.Marks.{Marks}
 use Rattle.x86_insn.specs.declared.row.Operands.{Operands}
-use Rattle.x86_insn.specs.Addressing.{byte_at, dword_at, sign_extended, reg_of, mod_field, reg_field, rm_field, scale_field, index_field, base_field, names_memory, has_sib, base_number, has_base, displacement_place, displacement_bytes, displacement_of, displacement_length, address_length, factor_of, has_index, memory_of, rm_of}
+use Rattle.x86_insn.specs.Addressing.{byte_at, dword_at, sign_extended, reg_of, mod_field, reg_field, rm_field, base_field, names_memory, has_sib, base_number, has_base, displacement_place, displacement_bytes, displacement_of, displacement_length, address_length, factor_of, memory_of, rm_of}
 use Rattle.x86_insn.specs.Spelling.{has_modrm, takes_digit, takes_operand, immediate_length, signed_byte, half_number, immediate_of, immediate_place, addressed, from_modrm, form_width, operand_length, takes_modrm, operands_of}
 
 -- the same bytes stand in both below a place
@@ -137,7 +137,7 @@ same_operand s t h =
     let a = same_address s t m (λ e. h 1 (sib_within s e)) in
     let len = same_displaced s t m a in
     let disp : displacement_of s (displacement_length s) ≡ displacement_of t (displacement_length t) =
-        displacement_same s t (displacement_length s) (displacement_place s) (displacement_cases (mod_field s) (has_base s)) refl (sym m.place) h ∙ ap (displacement_of t) len in
+    displacement_same s t (displacement_length s) (displacement_place s) (displacement_cases (mod_field s) (has_base s)) refl (sym m.place) h ∙ ap (displacement_of t) len in
     let base : (memory_of s).base ≡ (memory_of t).base = ap₂ (λ (v : Bool) (n : ℕ). if v then Some (reg_of n) else None) (same_has_base s t m a) a.base in
     let mem : memory_of s ≡ memory_of t = mem_same _ _ _ _ _ _ base a.index disp in
     record {
@@ -168,13 +168,14 @@ same_operands r m opcode s t h = go (has_modrm r.layout) refl
     made : reg_field (from_modrm r s) ≡ reg_field (from_modrm r t) → names_memory (from_modrm r s) ≡ names_memory (from_modrm r t) → rm_of (from_modrm r s) ≡ rm_of (from_modrm r t) → immediate_place (has_modrm r.layout) s ≡ immediate_place (has_modrm r.layout) t → SameOperands r m opcode s t
     made reg names rm place =
         let imm : (operands_of r m opcode s).immediate ≡ (operands_of r m opcode t).immediate =
-            immediate_at r m s t (immediate_place (has_modrm r.layout) s) h ∙ ap (immediate_of r.immediate (form_width r m) t) place in
+        immediate_at r m s t (immediate_place (has_modrm r.layout) s) h ∙ ap (immediate_of r.immediate (form_width r m) t) place in
         let regs : reg_of (reg_field (from_modrm r s)) ≡ reg_of (reg_field (from_modrm r t)) = ap reg_of reg in
         record {
           length = ap (λ (k : ℕ). k + immediate_length r.immediate (form_width r m)) place;
           modrm = ap₂ (takes_by r m) reg names;
           operands = operands_same _ _ _ _ _ _ _ _ _ regs rm imm;
         }
+
     go : (v : Bool) → has_modrm r.layout ≡ v → SameOperands r m opcode s t
     go true e =
         let len : operand_length r m s ≡ address_length s + immediate_length r.immediate (form_width r m) = ap (λ (v : Bool). immediate_place v s + immediate_length r.immediate (form_width r m)) e in

@@ -1,5 +1,5 @@
 -- The scan of a row's operand bytes is right.
-use Rattle.std.specs.Prelude.{◌≡◌, ℕ, zero, suc, ◌+◌, ◌-◌, ◌*◌, ◌/◌, ◌%◌, ◌<◌, ◌≤◌, Bool, true, false, not, ◌&&◌, ◌||◌, ◌⊎◌, List, [], ◌∷◌, ◌++◌, length, take, replicate, Option, Some, None, refl, nat_eq, nat_le, nat_lt, ◌==◌, if◌then◌else◌}
+use Rattle.std.specs.Prelude.{◌≡◌, ℕ, zero, suc, ◌+◌, ◌-◌, ◌/◌, ◌%◌, ◌<◌, ◌≤◌, Bool, true, false, not, ◌&&◌, ◌||◌, List, [], ◌∷◌, ◌++◌, length, take, replicate, Option, Some, None, refl, nat_le, nat_lt, ◌==◌, if◌then◌else◌}
 use Rattle.std.proofs.Common.{sym, ◌∙◌, ap, ap₂, subst, inl, inr, arith, length-take-le}
 use Rattle.std.proofs.lemmas.Bool.{eqb-true, eq-eqb, leb-true, le-leb, cases_lt}
 use Rattle.x86_insn.specs.declared.insn.Insn.{Insn}
@@ -7,13 +7,12 @@ use Rattle.x86_insn.specs.declared.row.Layout.{Layout}
 use Rattle.x86_insn.specs.declared.row.Layout.TheVariants.{NoModrm, Any, Memory, Register}
 use Rattle.x86_insn.specs.declared.row.Form.{Form}
 use Rattle.x86_insn.specs.declared.row.Marks.{Marks}
-use Rattle.x86_insn.specs.declared.row.Operands.{Operands}
 use Rattle.x86_insn.specs.Addressing.{byte_at, reg_field, rm_field, base_field, base_number, names_memory, has_sib, has_base, mod_field, displacement_place, displacement_bytes, address_length}
 use Rattle.x86_insn.specs.Meaning.{meaning}
-use Rattle.x86_insn.specs.Spelling.{has_modrm, takes_digit, takes_operand, immediate_length, immediate_place, addressed, from_modrm, form_width, operand_length, takes_marks, takes_modrm, operands_of, spelled_operands, are_bytes}
-use Rattle.x86_insn.specs.Scanning.{Scan, Found, More, Nothing, mod_of, digit_of, seeded, sized, scan_operands, Agree, IsScan}
-use Rattle.x86_insn.specs.Agreeing.{chosen, both_true, and_true, true_or_false, true_not_false, agree_byte, agree_swap, byte_of_take, byte_of_padded, zeros_are_bytes, padded_length, are_bytes_cons}
-use Rattle.x86_insn.specs.OperandBytes.{Same, address_above, same_length, same_operands}
+use Rattle.x86_insn.specs.Spelling.{has_modrm, takes_digit, takes_operand, immediate_length, immediate_place, addressed, from_modrm, form_width, operand_length, takes_marks, takes_modrm, operands_of, spelled_operands}
+use Rattle.x86_insn.specs.Scanning.{Scan, Found, More, Nothing, mod_of, digit_of, sized, scan_operands, Agree, IsScan}
+use Rattle.x86_insn.specs.Agreeing.{chosen, both_true, and_true, true_not_false, agree_byte, agree_swap, byte_of_take, byte_of_padded, zeros_are_bytes, padded_length, are_bytes_cons}
+use Rattle.x86_insn.specs.OperandBytes.{address_above, same_length, same_operands}
 
 -- a row's digit is a reg field
 abbrev pub small_digit : Option ℕ → Bool
@@ -37,7 +36,7 @@ fits_of r m opcode s i e =
 pub spelled_of : (r : Form) (m : Marks) (opcode : ℕ) (s : List ℕ) (i : Insn) → Fits r m opcode s i → spelled_operands r m opcode s ≡ Some i
 spelled_of r m opcode s i w =
     let t : (takes_marks r m && takes_modrm r m s && (length s == operand_length r m s)) ≡ true =
-        and_true _ _ (and_true _ _ w.marks w.modrm) (eq-eqb (length s) (operand_length r m s) w.whole) in
+    and_true _ _ (and_true _ _ w.marks w.modrm) (eq-eqb (length s) (operand_length r m s) w.whole) in
     ap (λ (v : Bool). elim v as (λ _. Option Insn) [ true ↦ Some (meaning r.kind (operands_of r m opcode s)) | false ↦ None ]) t ∙ ap Some w.means
 
 -- a front as long as the operand is one
@@ -90,8 +89,10 @@ lone_modrm x s e =
   where
     modes : mod_field s ≡ mod_field (x ∷ [])
     modes = ap (λ (b : ℕ). b / 64) e
+
     sibs : has_sib s ≡ has_sib (x ∷ [])
     sibs = ap (λ (b : ℕ). not (b / 64 == 3) && (b % 8 == 4)) e
+
     by_sib : (v : Bool) → has_sib (x ∷ []) ≡ v → displacement_bytes (mod_field (x ∷ [])) (has_base (x ∷ [])) ≤ displacement_bytes (mod_field s) (has_base s)
     by_sib true h =
         let number : base_number (x ∷ []) ≡ 0 = ap (λ (v : Bool). if v then base_field (x ∷ []) else rm_field (x ∷ [])) h in
@@ -261,10 +262,13 @@ seed_only r m opcode e h t u =
         let n = operand_length r m w in
         let len = length_with r m w e in
         let one = seed_length r.layout r.digit h in
-        let p : length w ≤ n = omega (arith, len, one) in
-        (omega arith, (w ++ replicate (n - length w) 0, padded_length w n p, are_bytes_cons (mod_of r.layout + digit_of r.digit) (replicate (n - length w) 0) (seed_is_byte r.layout r.digit h) (zeros_are_bytes (n - length w)), (meaning r.kind (operands_of r m opcode w), spelled_of r m opcode (w ++ replicate (n - length w) 0) (meaning r.kind (operands_of r m opcode w)) (padded_fits r m opcode w t u p))), λ s j q a.
-            let f = fits_of r m opcode s j q in
-            omega (arith, len, one, f.whole, length_with r m s e, address_above s))
+        let p : length w ≤ n = omega (arith, len, one) in (
+          omega arith,
+          (w ++ replicate (n - length w) 0, padded_length w n p, are_bytes_cons (mod_of r.layout + digit_of r.digit) (replicate (n - length w) 0) (seed_is_byte r.layout r.digit h) (zeros_are_bytes (n - length w)), (meaning r.kind (operands_of r m opcode w), spelled_of r m opcode (w ++ replicate (n - length w) 0) (meaning r.kind (operands_of r m opcode w)) (padded_fits r m opcode w t u p))),
+          λ s j q a.
+              let f = fits_of r m opcode s j q in
+              omega (arith, len, one, f.whole, length_with r m s e, address_above s),
+        )
 
 no_bytes : (r : Form) (m : Marks) (opcode : ℕ) → small_digit r.digit ≡ true → IsScan (spelled_operands r m opcode) [] (scan_operands r m opcode [])
 no_bytes r m opcode h = by_marks (takes_marks r m && takes_modrm r m (seed r.layout r.digit)) refl
@@ -275,9 +279,11 @@ no_bytes r m opcode h = by_marks (takes_marks r m && takes_modrm r m (seed r.lay
         let len : operand_length r m [] ≡ operand_length r m (seed r.layout r.digit) = length_without r m [] e ∙ sym (length_without r m (seed r.layout r.digit) e) in
         let here = sized_right r m opcode [] t (takes_without r m [] (seed r.layout r.digit) e ∙ u) (λ s j f a. omega (arith, f.whole, length_without r m s e, length_without r m [] e)) in
         subst (λ (n : ℕ). IsScan (spelled_operands r m opcode) [] (sized_scan r m opcode [] n)) len here
+
     seeds : (v : Bool) (s : List ℕ) → has_modrm r.layout ≡ v → takes_modrm r m s ≡ true → takes_modrm r m (seed r.layout r.digit) ≡ true
     seeds true s e t = seed_takes r m s e h t
     seeds false s e t = takes_without r m (seed r.layout r.digit) s e ∙ t
+
     by_marks : (v : Bool) → (takes_marks r m && takes_modrm r m (seed r.layout r.digit)) ≡ v → IsScan (spelled_operands r m opcode) [] (elim v [ true ↦ sized_scan r m opcode [] (operand_length r m (seed r.layout r.digit)) | false ↦ Nothing ])
     by_marks true e = let w = both_true (takes_marks r m) _ e in by_layout (has_modrm r.layout) refl w.0 w.1
     by_marks false e = λ s j p a.

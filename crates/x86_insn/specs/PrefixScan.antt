@@ -1,23 +1,21 @@
 -- The scan of whole instructions is right: prefixes are told from opcodes by their bytes, and more prefixes never make
 -- what is missing shorter.
-use Rattle.std.specs.Prelude.{◌≡◌, ℕ, zero, suc, ◌+◌, ◌-◌, ◌<◌, ◌≤◌, Bool, true, false, not, ◌&&◌, ◌||◌, ◌⊎◌, List, [], ◌∷◌, ◌++◌, length, take, count_by, cond, Option, Some, None, refl, nat_eq, nat_le, nat_lt}
+use Rattle.std.specs.Prelude.{◌≡◌, ℕ, ◌+◌, ◌≤◌, Bool, true, false, ◌&&◌, ◌||◌, ◌⊎◌, List, [], ◌∷◌, ◌++◌, length, take, count_by, cond, Option, Some, None, refl, nat_eq, nat_le, nat_lt}
 use Rattle.std.proofs.Common.{sym, ◌∙◌, ap, ap₂, subst, inl, inr, arith, append-nil, append_assoc}
 use Rattle.std.proofs.lemmas.Bool.{leb-true, le-leb, eqb-true}
 use Rattle.std.proofs.lemmas.List.{length-append}
 use Rattle.std.proofs.Math.Seq.{take-append-add}
 use Rattle.std.proofs.lemmas.List.Sums.{sum_by-cons}
 use Rattle.x86_insn.specs.declared.insn.Insn.{Insn}
-use Rattle.x86_insn.specs.declared.insn.Rep.{Rep}
-use Rattle.x86_insn.specs.declared.insn.Rep.TheVariants.{Once, F3, F2}
 use Rattle.x86_insn.specs.declared.row.Row.{Row}
 use Rattle.x86_insn.specs.declared.row.Marks.{Marks}
 use Rattle.x86_insn.specs.Prefixes.{is_among, is_prefix, are_prefixes, at_most_one, may_stand_together, marks_of, rep_of, segments, locks_and_repeats}
 use Rattle.x86_insn.specs.Rows.{rows}
-use Rattle.x86_insn.specs.Spelling.{front, body, spelled_row, spelled_rows, are_bytes}
+use Rattle.x86_insn.specs.Spelling.{front, body, spelled_rows}
 use Rattle.x86_insn.specs.Scanning.{Scan, Found, More, Nothing, later, scan_rows, scan, Agree, IsScan}
-use Rattle.x86_insn.specs.Agreeing.{chosen, both_true, and_true, true_or_false, true_not_false, or_cases, agree_self}
+use Rattle.x86_insn.specs.Agreeing.{chosen, both_true, and_true, true_not_false, or_cases}
 use Rattle.x86_insn.specs.Scanned.{Speller, agree_nil}
-use Rattle.x86_insn.specs.RowScan.{pattern, Begins, RowParts, row_parts, rows_scan}
+use Rattle.x86_insn.specs.RowScan.{pattern, Begins, row_parts, rows_scan}
 
 -- what all of a list spells, without the limit of 15 bytes
 abbrev pub unlimited : Speller
@@ -277,11 +275,13 @@ with_opcode b x u e r t h = by_scan r h
   where
     size : length b ≡ length (front b) + length (body b)
     size = omega (arith, ap length (split b), length-append (front b) (body b))
+
     behind : (s : List ℕ) (j : Insn) → unlimited s ≡ Some j → Agree s b → (spelled_rows rows (marks_of (front b)) (body s) ≡ Some j) × Agree (body s) (body b) × (length s ≡ length (front b) + length (body s))
     behind s j p a =
         let w = unlimited_parts s j p in
         let v = same_prefixes s b w.head.byte x w.head.rest u w.head.parts e a in
         (ap (λ (q : List ℕ). spelled_rows rows (marks_of q) (body s)) (sym v.fronts) ∙ w.spells, v.bodies, omega (arith, w.size, ap length v.fronts))
+
     by_scan : (q : Scan) → IsScan (spelled_rows rows (marks_of (front b))) (body b) q → IsScan unlimited b (later (length (front b)) q)
     by_scan (Found i n) k =
         let taken : take (length (front b) + n) b ≡ front b ++ take n (body b) = ap (take (length (front b) + n)) (sym (split b)) ∙ take-append-add (front b) (body b) n in
@@ -310,6 +310,7 @@ prefixes_only b e t =
       where
         alone : front b ≡ b
         alone = prefixes_alone b e
+
         by_rest : (s : List ℕ) (j : Insn) → UnlimitedParts s j → (more : List ℕ) → front s ≡ b ++ more → length (front b) + n ≤ length s
         by_rest s j v [] f =
             let same : front s ≡ front b = f ∙ append-nil b ∙ sym alone in
@@ -317,6 +318,7 @@ prefixes_only b e t =
             let l = k.2 (body s) j spells (subst (Agree (body s)) (sym e) (agree_nil (body s))) in
             omega (arith, l, v.size, ap length same)
         by_rest s j v (z ∷ more) f = omega (arith, two, v.size, ap length v.head.parts, ap length f, length-append b (z ∷ more), ap length alone)
+
         bound : (s : List ℕ) (j : Insn) → unlimited s ≡ Some j → Agree s b → length (front b) + n ≤ length s
         bound s j p a =
             let v = unlimited_parts s j p in
@@ -342,6 +344,7 @@ scan_right b = by_test (may_stand_together (front b)) refl
     by_body : (u : List ℕ) → body b ≡ u → may_stand_together (front b) ≡ true → IsScan unlimited b (later (length (front b)) (scan_rows rows (marks_of (front b)) (body b)))
     by_body [] e t = prefixes_only b e t
     by_body (x ∷ u) e t = with_opcode b x u e (scan_rows rows (marks_of (front b)) (body b)) t (rows_scan (marks_of (front b)) (body b))
+
     by_test : (v : Bool) → may_stand_together (front b) ≡ v → IsScan unlimited b (elim v as (λ _. Scan) [ true ↦ later (length (front b)) (scan_rows rows (marks_of (front b)) (body b)) | false ↦ Nothing ])
     by_test true t = by_body (body b) refl t
     by_test false t = no_together b t

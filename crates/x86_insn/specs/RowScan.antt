@@ -1,5 +1,5 @@
 -- The scan of rows is right, since no two rows of the table give byte lists that agree.
-use Rattle.std.specs.Prelude.{◌≡◌, ◌≢◌, ℕ, zero, suc, ◌+◌, ◌/◌, ◌%◌, ◌<◌, ◌≤◌, Bool, true, false, not, ◌&&◌, ◌||◌, ◌⊎◌, List, [], ◌∷◌, ◌++◌, length, take, Option, Some, None, refl, nat_eq, nat_le, nat_lt, ◌==◌}
+use Rattle.std.specs.Prelude.{◌≡◌, ℕ, suc, ◌+◌, ◌/◌, ◌%◌, ◌<◌, ◌≤◌, Bool, true, false, not, ◌&&◌, ◌||◌, ◌⊎◌, List, [], ◌∷◌, ◌++◌, length, Option, Some, None, refl, nat_eq, nat_le, nat_lt, ◌==◌}
 use Rattle.std.proofs.Common.{sym, ◌∙◌, ap, subst, inl, inr, arith}
 use Rattle.std.proofs.lemmas.Bool.{eqb-true, eq-eqb, leb-true}
 use Rattle.x86_insn.specs.declared.insn.Insn.{Insn}
@@ -12,13 +12,12 @@ use Rattle.x86_insn.specs.declared.row.Form.{Form}
 use Rattle.x86_insn.specs.declared.row.Row.{Row}
 use Rattle.x86_insn.specs.declared.row.Marks.{Marks}
 use Rattle.x86_insn.specs.Addressing.{byte_at, reg_field, names_memory, address_length}
-use Rattle.x86_insn.specs.Prefixes.{is_among, is_prefix, segments, locks_and_repeats}
 use Rattle.x86_insn.specs.Meaning.{meaning}
 use Rattle.x86_insn.specs.Rows.{rows}
 use Rattle.x86_insn.specs.Spelling.{lead_bytes, immediate_length, immediate_place, form_width, has_modrm, takes_word, takes_digit, takes_operand, takes_repeat, takes_marks, takes_modrm, from_modrm, addressed, operand_length, operands_of, is_opcode, spelled_operands, spelled_opcode, behind_lead, spelled_row, spelled_rows, are_bytes}
 use Rattle.x86_insn.specs.Scanning.{Scan, Found, More, Nothing, unseen, seeded, sized, scan_operands, scan_opcode, scan_lead, scan_row, scan_rows, Agree, IsScan}
 use Rattle.x86_insn.specs.Agreeing.{chosen, both_true, true_not_false, or_cases, agree_byte}
-use Rattle.x86_insn.specs.Scanned.{Speller, Exclude, IsStep, best_of, step_unseen, step_seen}
+use Rattle.x86_insn.specs.Scanned.{Speller, Exclude, best_of, step_unseen, step_seen}
 use Rattle.x86_insn.specs.OperandBytes.{address_above}
 use Rattle.x86_insn.specs.OperandScan.{small_digit, operands_scan}
 
@@ -231,7 +230,7 @@ rows_apart r q m h s t i j e f a =
             let l1 = both_true (nat_eq (length (lead_bytes r.lead)) (length (lead_bytes q.lead)) && has_modrm r.form.layout) _ l2.0 in
             let l0 = both_true (nat_eq (length (lead_bytes r.lead)) (length (lead_bytes q.lead))) _ l1.0 in
             let whole : Agree (lead_bytes r.lead ++ w.opcode ∷ w.operands) (lead_bytes q.lead ++ v.opcode ∷ v.operands) =
-                subst (Agree (lead_bytes r.lead ++ w.opcode ∷ w.operands)) v.parts (subst (λ (u : List ℕ). Agree u t) w.parts a) in
+            subst (Agree (lead_bytes r.lead ++ w.opcode ∷ w.operands)) v.parts (subst (λ (u : List ℕ). Agree u t) w.parts a) in
             let behind = agree_behind (lead_bytes r.lead) (lead_bytes q.lead) (w.opcode ∷ w.operands) (v.opcode ∷ v.operands) (eqb-true _ _ l0.0) whole in
             let byte : byte_at w.operands 0 ≡ byte_at v.operands 0 = agree_byte w.operands v.operands 0 behind.1 (first_byte r.form m w.operands l0.1 ow) (first_byte q.form m v.operands l1.1 ov) in
             let fr : reg_field (from_modrm r.form w.operands) ≡ reg_field w.operands = ap (λ (b : Bool). reg_field (addressed b w.operands)) l0.1 in

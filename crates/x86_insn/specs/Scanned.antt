@@ -1,11 +1,10 @@
 -- Scans are right: what holds of a scan of some bytes' rest holds of the scan of the whole, and of several rows'.
-use Rattle.std.specs.Prelude.{◌≡◌, ℕ, zero, suc, ◌+◌, ◌<◌, ◌≤◌, min, Bool, true, false, ◌⊎◌, List, [], ◌∷◌, ◌++◌, length, take, Option, Some, None, refl, nat_eq, nat_le}
+use Rattle.std.specs.Prelude.{◌≡◌, ℕ, zero, suc, ◌+◌, ◌<◌, ◌≤◌, min, Bool, true, false, ◌⊎◌, List, [], ◌∷◌, ◌++◌, length, take, Option, Some, None, refl}
 use Rattle.std.proofs.Common.{sym, ◌∙◌, ap, subst, inl, inr, arith}
-use Rattle.std.proofs.lemmas.Bool.{eqb-true, eq-eqb}
 use Rattle.x86_insn.specs.declared.insn.Insn.{Insn}
-use Rattle.x86_insn.specs.Spelling.{or_else, are_bytes, behind_lead}
-use Rattle.x86_insn.specs.Scanning.{Scan, Found, More, Nothing, later, unseen, best, scan_lead, Agree, IsScan}
-use Rattle.x86_insn.specs.Agreeing.{chosen, true_or_false, true_not_false, or_cases, or_left, or_right, agree_self, agree_swap, agree_take, take_agrees, append_agrees, are_bytes_cons}
+use Rattle.x86_insn.specs.Spelling.{or_else}
+use Rattle.x86_insn.specs.Scanning.{Scan, Found, More, Nothing, later, unseen, best, Agree, IsScan}
+use Rattle.x86_insn.specs.Agreeing.{chosen, true_not_false, or_cases, or_left, or_right, agree_self, agree_swap, agree_take, are_bytes_cons}
 
 -- what all of a list spells
 abbrev pub Speller : Type 0
@@ -23,11 +22,14 @@ found_and : (f g : Speller) (b : List ℕ) (i : Insn) (n : ℕ) → Exclude f g 
 found_and f g b i n apart h = (h.0, or_left _ _ i h.1, λ s j e a. elim (or_cases _ _ j e) [ inl p ↦ h.2 s j p a | inr p ↦ absurd (apart (take n b) s i j h.1 p (agree_swap s (take n b) (agree_take n s b a))) ])
 
 and_found : (f g : Speller) (b : List ℕ) (i : Insn) (n : ℕ) → Exclude f g → IsScan g b (Found i n) → IsScan (either f g) b (Found i n)
-and_found f g b i n apart h =
-    (h.0, or_right _ _ i (λ j e. apart (take n b) (take n b) j i e h.1 (agree_self (take n b))) h.1, λ s j e a. elim (or_cases _ _ j e) [
-      | inl p ↦ absurd (apart s (take n b) j i p h.1 (agree_take n s b a))
-      | inr p ↦ h.2 s j p a
-    ])
+and_found f g b i n apart h = (
+  h.0,
+  or_right _ _ i (λ j e. apart (take n b) (take n b) j i e h.1 (agree_self (take n b))) h.1,
+  λ s j e a. elim (or_cases _ _ j e) [
+    | inl p ↦ absurd (apart s (take n b) j i p h.1 (agree_take n s b a))
+    | inr p ↦ h.2 s j p a
+  ],
+)
 
 -- the bytes lack some, by the first of two or by the second
 more_left : (f g : Speller) (b : List ℕ) (n : ℕ) → IsScan f b (More n) → ((s : List ℕ) (j : Insn) → g s ≡ Some j → Agree s b → n ≤ length s) → IsScan (either f g) b (More n)
@@ -109,6 +111,7 @@ step_unseen f test g x r w t small h each = by_scan r h refl
         let p = step_parts w b s j e in
         let q = each b p.0 in
         (length s, refl, within_same r q.0 (length s) q.2 (within_of (g b) [] q.0 q.1 s j p.1 (agree_nil s)))
+
     by_scan : (q : Scan) → IsScan (g x) [] q → q ≡ r → IsScan f [] (unseen q)
     by_scan (Found i zero) k same = (omega arith, (x ∷ [], refl, are_bytes_cons x [] small refl, (i, step_back w x [] i t k.1)), λ s j e a. let v = bound s j e in let z = subst (λ (y : Scan). Within y v.0) (sym same) v.2 in omega (arith, v.1))
     by_scan (Found i (suc n)) k same = absurd (omega (arith, k.0))
@@ -126,6 +129,7 @@ step_seen f test g b t r w h = by_test (test b) refl
     behind (y ∷ u) j e a =
         let p = step_parts w y u j e in
         (u, ap (λ (z : ℕ). z ∷ u) a.0, ap test (sym a.0) ∙ p.0, ap (λ (z : ℕ). g z u) (sym a.0) ∙ p.1, a.1)
+
     by_scan : (q : Scan) → test b ≡ true → IsScan (g b) t q → IsScan f (b ∷ t) (later 1 q)
     by_scan (Found i n) p k = (omega (arith, k.0), rw add_one_first (step_back w b (take n t) i p k.1), λ s j e a. let v = behind s j e a in let l = k.2 v.0 j v.3 v.4 in omega (arith, ap length v.1, l))
       where
@@ -135,6 +139,7 @@ step_seen f test g b t r w h = by_test (test b) refl
         let v = k.1 in
         (omega (arith, k.0), (v.0, omega (arith, v.1), v.2, (v.3.0, step_back w b (t ++ v.0) v.3.0 p v.3.1)), λ s j e a. let u = behind s j e a in let l = k.2 u.0 j u.3 u.4 in omega (arith, ap length u.1, l))
     by_scan Nothing p k = λ s j e a. let u = behind s j e a in k u.0 j u.3 u.4
+
     by_test : (v : Bool) → test b ≡ v → IsScan f (b ∷ t) (elim v [ true ↦ later 1 r | false ↦ Nothing ])
     by_test true e = by_scan r e (h e)
     by_test false e = λ s j p a. let u = behind s j p a in true_not_false (sym u.2 ∙ e)

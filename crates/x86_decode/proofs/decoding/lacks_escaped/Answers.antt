@@ -1,5 +1,4 @@
-use Rattle.std.proofs.Common.{◌≤◌, refl, sym, ◌∙◌, ap, ap₂, arith}
-use Rattle.x86_insn.specs.declared.insn.Rep.TheVariants.{Once, F3}
+use Rattle.std.proofs.Common.{refl, sym, ◌∙◌}
 use Rattle.x86_decode.proofs.Lacking.{escaped_lacks, lacks_escaped_is, at_marks}
 use Rattle.x86_decode.proofs.decoding.lacks_escaped.Goals as goal
 

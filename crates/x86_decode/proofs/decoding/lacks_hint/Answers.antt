@@ -1,5 +1,5 @@
-use Rattle.std.proofs.Common.{◌≤◌, refl, sym, ◌∙◌, ap, ap₂, arith}
-use Rattle.x86_insn.specs.declared.insn.Rep.TheVariants.{Once, F3}
+use Rattle.std.proofs.Common.{refl, sym, ◌∙◌, arith}
+use Rattle.x86_insn.specs.declared.insn.Rep.TheVariants.{F3}
 use Rattle.x86_decode.proofs.Lacking.{only_with, lacks_hint_is, at_marks, not_repeated}
 use Rattle.x86_decode.proofs.decoding.lacks_hint.Goals as goal
 

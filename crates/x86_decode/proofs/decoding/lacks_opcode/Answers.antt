@@ -1,5 +1,4 @@
-use Rattle.std.proofs.Common.{◌≤◌, refl, sym, ◌∙◌, ap, ap₂, arith}
-use Rattle.x86_insn.specs.declared.insn.Rep.TheVariants.{Once, F3}
+use Rattle.std.proofs.Common.{sym, ◌∙◌, ap, ap₂}
 use Rattle.x86_decode.proofs.Lacking.{opcode_lacks, lacks_opcode_is}
 use Rattle.x86_decode.proofs.decoding.lacks_opcode.Goals as goal
 

@@ -1,5 +1,4 @@
-use Rattle.std.proofs.Common.{[], ◌∷◌, refl, sym, ◌∙◌}
-use Rattle.x86_insn.specs.Scanning.{Nothing}
+use Rattle.std.proofs.Common.{[]}
 use Rattle.x86_decode.specs.Candidates.{rows_behind}
 use Rattle.x86_decode.proofs.Behind.{through, escape_byte, interrupt_byte, one_byte_opcode}
 use Rattle.x86_decode.proofs.decoding.scan_body.Goals as goal

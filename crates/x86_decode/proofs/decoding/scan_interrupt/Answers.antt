@@ -1,5 +1,4 @@
-use Rattle.std.proofs.Common.{[], ◌∷◌, refl, sym, ◌∙◌}
-use Rattle.x86_insn.specs.Scanning.{Nothing}
+use Rattle.std.proofs.Common.{[], ◌∷◌, refl}
 use Rattle.x86_decode.specs.Candidates.{rows_behind}
 use Rattle.x86_decode.proofs.Behind.{through, at_number, one_form, no_form}
 use Rattle.x86_decode.proofs.decoding.scan_interrupt.Goals as goal

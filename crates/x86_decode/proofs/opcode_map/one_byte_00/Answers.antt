@@ -1,4 +1,4 @@
-use Rattle.std.proofs.Common.{◌-◌, [], ◌∷◌, None, refl, arith}
+use Rattle.std.proofs.Common.{[], None, refl, arith}
 use Rattle.x86_insn.specs.Rows.{rows}
 use Rattle.x86_decode.specs.declared.opcode_map.TheConstants.{ONE_BYTE_00}
 use Rattle.x86_decode.specs.Candidates.{rows_behind}

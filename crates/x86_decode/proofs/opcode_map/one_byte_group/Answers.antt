@@ -1,4 +1,4 @@
-use Rattle.std.proofs.Common.{ℕ, [], ◌∷◌, sym, ap}
+use Rattle.std.proofs.Common.{ℕ, [], sym, ap}
 use Rattle.x86_insn.specs.Rows.{rows}
 use Rattle.x86_decode.specs.Candidates.{rows_behind, group_at}
 use Rattle.x86_decode.proofs.opcode_map.one_byte_group.Goals as goal
