@@ -54,9 +54,12 @@ impl Memory {
     {
         match effect {
             Effect::Write { lo, bytes } => self.apply_write(*lo, bytes.as_slice()),
-            Effect::Map { lo, len, mode, bytes } => {
-                self.apply_map(*lo, *len, *mode, bytes.as_slice())
-            }
+            Effect::Map {
+                lo,
+                len,
+                mode,
+                bytes,
+            } => { self.apply_map(*lo, *len, *mode, bytes.as_slice()) }
             Effect::Unmap { lo, len } => self.apply_unmap(*lo, *len),
         }
     }
@@ -81,13 +84,7 @@ impl Memory {
     }
 
     /// Maps `len` new cells from `lo` on.
-    fn apply_map(
-        &mut self,
-        lo: u32,
-        len: u32,
-        mode: Mode,
-        bytes: &[u8],
-    ) -> Result<(), EffectFault>
+    fn apply_map(&mut self, lo: u32, len: u32, mode: Mode, bytes: &[u8]) -> Result<(), EffectFault>
         requires some { 0 < len }
         requires low { lo + len ≤ 0xFFFFF000 }
         ensures { IsApplied (cells self.old) (MapAt lo len (mode_of mode) bytes.now) (cells self.new) result }

@@ -11,4 +11,5 @@ pub(crate) const STACK_BYTES: u64 = 1_048_576;
 
 /// The stack's first address, and the address after its last.
 pub(crate) const STACK_START: u32 = 0xBFEF_F000;
+
 pub(crate) const STACK_END: u32 = 0xBFFF_F000;

@@ -56,7 +56,7 @@ returns c =
     let start : 0xBFFFF000 - c.arguments_len-start.result ≡ arguments_at args = omega arith in
     let number : length c.as_slice-args.result.now ≡ length args = ap (λ (xs : List (List ℕ)). length xs) c.as_slice-args.ensures in
     let pointer : (0xBFFFF000 - c.arguments_len-start.result - 4 * (length c.as_slice-args.result.now + 5)) / 16 * 16 ≡ stack_pointer args =
-        ap₂ (λ s n. (s - 4 * (n + 5)) / 16 * 16) start number in
+    ap₂ (λ s n. (s - 4 * (n + 5)) / 16 * 16) start number in
     record {
       free = sym c.if-is_stack_taken.ensures;
       pointer = pointer;
