@@ -9,7 +9,7 @@ ghost use Rattle.proc_image.specs.Counting.{mapped_pages, some_below};
 ghost use Rattle.proc_image.specs.Mapping.{filled};
 ghost use Rattle.proc_image.specs.Paged.{cells};
 
-use crate::limits::{MOST_MAPPED, PAGE_BYTES};
+use crate::limits::{MOST_MAPPED, PAGE_BYTES, PAGE_SIZE};
 use crate::memory::Memory;
 use mv_base::NoMemory;
 use syscall_log::{Effect, Mode};
@@ -121,8 +121,8 @@ impl Memory {
         requires low { lo + len ≤ 0xFFFFF000 }
         ensures { (bytes : List ℕ) (write exec : Bool) → result ≡ mapped_pages (filled (cells self.now) lo len bytes write exec) }
     {
-        let first = lo / 4_096;
-        let count = (lo + len + 4_095) / 4_096 - first;
+        let first = lo / PAGE_SIZE;
+        let count = (lo + len + 4_095) / PAGE_SIZE - first;
         self.mapped_pages() + (count - self.mapped_pages_in(first, count))
     }
 
@@ -134,7 +134,7 @@ impl Memory {
         let end = lo + len;
         let mut at = lo;
         while at < end {
-            let next = end.min((at / 4_096 + 1) * 4_096);
+            let next = end.min((at / PAGE_SIZE + 1) * PAGE_SIZE);
             if self.has_code(at, next - at) {
                 return true;
             }
@@ -149,7 +149,7 @@ impl Memory {
         requires page { lo % 4096 + len ≤ 4096 }
         ensures { result ≡ some_below (λ j. is_executable (cells self.now) (lo + j)) len }
     {
-        if self.is_page_absent(lo / 4_096) {
+        if self.is_page_absent(lo / PAGE_SIZE) {
             return false;
         }
         for place in 0..len {
