@@ -1,6 +1,6 @@
 -- The stack, part by part.
 use mathlib.Core.Path.{fun_ext}
-use Rattle.std.proofs.Common.{◌≡◌, ℕ, zero, suc, ◌+◌, ◌-◌, ◌*◌, ◌/◌, ◌%◌, ◌^◌, ◌<◌, ◌≤◌, Bool, true, false, ◌||◌, List, [], ◌∷◌, ◌++◌, length, drop, get_or, slice_index, Option, Some, None, nat_lt, nat_le, if◌then◌else◌, refl, sym, ap, ap₂, ◌∙◌, arith, add-one, drop-cons, length-append, replicate}
+use Rattle.std.proofs.Common.{◌≡◌, ℕ, zero, suc, ◌+◌, ◌-◌, ◌*◌, ◌/◌, ◌%◌, ◌^◌, ◌<◌, ◌≤◌, Bool, true, false, ◌||◌, List, [], ◌∷◌, ◌++◌, length, drop, get_or, slice_index, Option, Some, None, nat_lt, nat_le, if◌then◌else◌, refl, sym, ap, ap₂, ◌∙◌, arith, add-one, drop-cons, length-append, replicate, is_some}
 use Rattle.std.specs.List.{sum_by}
 use Rattle.std.specs.Option.{option_map}
 use Rattle.std.proofs.lemmas.Bool.Decides.{nat_tests}
@@ -9,10 +9,10 @@ use Rattle.std.proofs.lemmas.List.Sums.{sum_by-cons}
 use Rattle.std.proofs.lemmas.Grind.{flat_map-append}
 use Rattle.byteorder.specs.Endian.{little_bytes}
 use Rattle.mv_base.specs.Bytes.{words}
-use Rattle.mv_base.specs.Memory.{Cell, Memory, within, is_mapped, address_after, distance, with_byte, put}
+use Rattle.mv_base.specs.Memory.{Cell, Memory, within, first_of, joined, is_mapped, address_after, distance, with_byte, put}
 use Rattle.proc_image.specs.Counting.{some_below, holds_mapped}
 use Rattle.proc_image.specs.Mapping.{filled}
-use Rattle.proc_image.specs.Stack.{argument_bytes, arguments_at, pointers, stack_words, stack_pointer, stack_byte, with_stack, stack_taken}
+use Rattle.proc_image.specs.Stack.{argument_bytes, arguments_at, pointers, stack_words, stack_pointer, stack_byte, stack_cells, stack_taken}
 use Rattle.proc_image.specs.Laws.{put-append}
 use Rattle.proc_image.proofs.Counts.{some-here, some-none}
 use Rattle.proc_image.proofs.Fills.{inside, is_inside, is_above}
@@ -173,6 +173,39 @@ words-padded ms k = ap (λ (bs : List ℕ). slice_index bs k) (words-append ms (
 zeroed : (m : Memory) (a : ℕ) → filled m 0xBFEFF000 0x100000 [] true false a ≡ (if within 0xBFEFF000 0x100000 a then Some (record { byte = 0; write = true; exec = false }) else m a)
 unfolding filled
 zeroed m a = refl
+
+-- memory with the stack in place of what stood there
+unfoldable pub with_stack : Memory → List (List ℕ) → Memory
+with_stack m args a = if within 0xBFEFF000 0x100000 a then Some (record { byte = stack_byte args a; write = true; exec = false }) else m a
+
+-- a free stack has no cell
+free-at : (m : Memory) (a : ℕ) → stack_taken m ≡ false → within 0xBFEFF000 0x100000 a ≡ true → m a ≡ None
+unfolding stack_taken
+free-at m a free is = go (m a) refl
+  where
+    go : (c : Option Cell) → m a ≡ c → m a ≡ None
+    go None e = e
+    go (Some c) e =
+        let bounds = inside 0xBFEFF000 0x100000 a is in
+        let place : 0xBFEFF000 + (a - 0xBFEFF000) ≡ a = omega (arith, bounds.0) in
+        let taken : true ≡ false =
+        sym (some-here (λ k. is_mapped m (0xBFEFF000 + k)) 0x100000 (a - 0xBFEFF000) (omega (arith, bounds.0, bounds.1)) (ap (is_mapped m) place ∙ ap is_some e)) ∙ free in
+        cc
+
+-- where it was free, it stands beside the cells of before
+pub with_stack-joined : (m : Memory) (args : List (List ℕ)) → stack_taken m ≡ false → with_stack m args ≡ joined m (stack_cells args)
+unfolding with_stack stack_cells
+with_stack-joined m args free = fun_ext (λ a. go a (within 0xBFEFF000 0x100000 a) refl)
+  where
+    alone : (c : Option Cell) → c ≡ first_of c None
+    alone None = refl
+    alone (Some c) = refl
+
+    go : (a : ℕ) (t : Bool) → within 0xBFEFF000 0x100000 a ≡ t
+        → (if t then Some (record { byte = stack_byte args a; write = true; exec = false }) else m a)
+        ≡ first_of (m a) (if t then Some (record { byte = stack_byte args a; write = true; exec = false }) else None)
+    go a true e = rw (free-at m a free e) refl
+    go a false e = alone (m a)
 
 -- a writable cell
 abbrev writable : ℕ → Option Cell
