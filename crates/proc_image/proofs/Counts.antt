@@ -1,5 +1,5 @@
 -- Counts of the numbers below a bound that pass a test, and of pages.
-use Rattle.std.proofs.Common.{◌≡◌, ℕ, zero, suc, ◌+◌, ◌-◌, ◌*◌, ◌/◌, ◌%◌, ◌<◌, ◌≤◌, Bool, true, false, ◌||◌, List, [], length, get_or, Option, None, is_some, nat_lt, if◌then◌else◌, refl, sym, ap, ap₂, ◌∙◌, arith, add-suc, add_assoc}
+use Rattle.std.proofs.Common.{◌≡◌, ℕ, zero, suc, ◌+◌, ◌*◌, ◌/◌, ◌%◌, ◌<◌, ◌≤◌, Bool, true, false, ◌||◌, List, [], get_or, None, is_some, nat_lt, if◌then◌else◌, refl, ap, ap₂, ◌∙◌, arith, add-suc, add_assoc}
 use Rattle.std.proofs.lemmas.Bool.Decides.{nat_tests}
 use Rattle.mv_base.specs.Memory.{Memory, is_mapped}
 use Rattle.proc_image.specs.declared.memory.Memory.{Memory as Pages}

@@ -1,8 +1,8 @@
 -- How many pages hold a mapped byte once a range is filled.
-use Rattle.std.proofs.Common.{◌≡◌, ℕ, zero, suc, ◌+◌, ◌-◌, ◌*◌, ◌/◌, ◌%◌, ◌^◌, ◌<◌, ◌≤◌, Bool, true, false, List, slice_index, Option, Some, None, is_some, nat_lt, if◌then◌else◌, refl, sym, ap, ap₂, ◌∙◌, arith}
+use Rattle.std.proofs.Common.{◌≡◌, ℕ, ◌+◌, ◌-◌, ◌*◌, ◌/◌, ◌<◌, ◌≤◌, Bool, true, false, List, slice_index, Some, is_some, nat_lt, if◌then◌else◌, refl, ap, ◌∙◌, arith}
 use Rattle.std.proofs.lemmas.Bool.Decides.{nat_tests}
-use Rattle.mv_base.specs.Memory.{Cell, Memory, within, is_mapped}
-use Rattle.proc_image.specs.Counting.{some_below, count_below, holds_mapped, mapped_pages, mapped_pages_in}
+use Rattle.mv_base.specs.Memory.{Memory, within, is_mapped}
+use Rattle.proc_image.specs.Counting.{count_below, holds_mapped, mapped_pages, mapped_pages_in}
 use Rattle.proc_image.specs.Mapping.{filled}
 use Rattle.proc_image.proofs.Counts.{some-same, some-here, count-same, count-add, count-all}
 use Rattle.proc_image.proofs.Fills.{is_inside, is_below, is_above}
@@ -54,12 +54,12 @@ mapped_pages-filled m lo len bytes w x first count some low first_is end_is =
     let new : count_below (holds_mapped (filled m lo len bytes w x)) 0x100000 ≡ _ = ap (count_below (holds_mapped (filled m lo len bytes w x))) all ∙ split (holds_mapped (filled m lo len bytes w x)) first count rest in
     let old : count_below (holds_mapped m) 0x100000 ≡ _ = ap (count_below (holds_mapped m)) all ∙ split (holds_mapped m) first count rest in
     let before : count_below (holds_mapped (filled m lo len bytes w x)) first ≡ count_below (holds_mapped m) first =
-        count-same (holds_mapped m) (holds_mapped (filled m lo len bytes w x)) first (λ p below. holds-same m (filled m lo len bytes w x) p (λ k small.
-        filled-out m lo len bytes w x (4096 * p + k) (is_below lo len (4096 * p + k) (omega arith)))) in
+    count-same (holds_mapped m) (holds_mapped (filled m lo len bytes w x)) first (λ p below. holds-same m (filled m lo len bytes w x) p (λ k small.
+    filled-out m lo len bytes w x (4096 * p + k) (is_below lo len (4096 * p + k) (omega arith)))) in
     let within_range : count_below (λ j. holds_mapped (filled m lo len bytes w x) (first + j)) count ≡ count =
-        count-all (λ j. holds_mapped (filled m lo len bytes w x) (first + j)) count (λ j below. holds-filled m lo len bytes w x (first + j) (omega arith) (omega arith) some) in
+    count-all (λ j. holds_mapped (filled m lo len bytes w x) (first + j)) count (λ j below. holds-filled m lo len bytes w x (first + j) (omega arith) (omega arith) some) in
     let after : count_below (λ k. holds_mapped (filled m lo len bytes w x) (first + (count + k))) rest ≡ count_below (λ k. holds_mapped m (first + (count + k))) rest =
-        count-same (λ k. holds_mapped m (first + (count + k))) (λ k. holds_mapped (filled m lo len bytes w x) (first + (count + k))) rest (λ j below.
-        holds-same m (filled m lo len bytes w x) (first + (count + j)) (λ k small.
-        filled-out m lo len bytes w x (4096 * (first + (count + j)) + k) (is_above lo len (4096 * (first + (count + j)) + k) (omega arith)))) in
+    count-same (λ k. holds_mapped m (first + (count + k))) (λ k. holds_mapped (filled m lo len bytes w x) (first + (count + k))) rest (λ j below.
+    holds-same m (filled m lo len bytes w x) (first + (count + j)) (λ k small.
+    filled-out m lo len bytes w x (4096 * (first + (count + j)) + k) (is_above lo len (4096 * (first + (count + j)) + k) (omega arith)))) in
     omega arith

@@ -1,9 +1,9 @@
 -- What a change of one page does to the pages and the cells of a directory.
 use mathlib.Core.Path.{fun_ext}
-use Rattle.std.proofs.Common.{◌≡◌, ◌≢◌, ℕ, zero, suc, ◌+◌, ◌-◌, ◌*◌, ◌/◌, ◌%◌, ◌<◌, ◌≤◌, ◌==◌, Bool, true, false, List, [], ◌∷◌, ◌++◌, length, set, get_or, take, replicate, Option, None, nat_lt, if◌then◌else◌, refl, sym, ap, ◌∙◌, subst, arith, length-append}
+use Rattle.std.proofs.Common.{◌≡◌, ◌≢◌, ℕ, zero, suc, ◌/◌, ◌%◌, ◌<◌, ◌≤◌, ◌==◌, Bool, true, false, List, [], ◌∷◌, ◌++◌, length, set, get_or, take, replicate, Option, None, nat_lt, if◌then◌else◌, refl, sym, ap, ◌∙◌, arith, length-append}
 use Rattle.std.proofs.lemmas.Bool.Decides.{nat_tests}
 use Rattle.std.proofs.lemmas.List.{get_or-set_same, get_or-set_other, length-set, take_all}
-use Rattle.mv_base.specs.Memory.{Cell, Memory}
+use Rattle.mv_base.specs.Memory.{Cell}
 use Rattle.proc_image.specs.declared.memory.Memory.{Memory as Pages}
 use Rattle.proc_image.specs.Paged.{Page, IsLonger, page_in, cell_in, table_of, page_of, cells, with_cell}
 

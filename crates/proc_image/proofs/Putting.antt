@@ -1,15 +1,13 @@
 -- What writes of one and more bytes leave.
 use mathlib.Core.Path.{fun_ext}
-use Rattle.std.proofs.Common.{◌≡◌, ◌≢◌, ℕ, zero, suc, ◌+◌, ◌-◌, ◌/◌, ◌%◌, ◌^◌, ◌<◌, ◌≤◌, ◌==◌, Bool, true, false, List, [], ◌∷◌, ◌++◌, length, slice_index, get_or, Option, Some, None, nat_lt, if◌then◌else◌, refl, sym, ap, ◌∙◌, arith}
+use Rattle.std.proofs.Common.{◌≡◌, ◌≢◌, ℕ, ◌/◌, ◌%◌, ◌^◌, ◌<◌, ◌≤◌, ◌==◌, Bool, true, false, [], ◌∷◌, length, slice_index, Option, Some, None, nat_lt, if◌then◌else◌, refl, sym, ap, ◌∙◌, arith}
 use Rattle.std.specs.Option.{option_map}
 use Rattle.std.proofs.lemmas.Bool.Decides.{nat_tests}
 use Rattle.std.proofs.lemmas.List.{get_or_past}
 use Rattle.std.proofs.lemmas.Option.{none-some}
-use Rattle.byteorder.specs.Endian.{little_bytes}
-use Rattle.mv_base.specs.Memory.{Cell, Memory, address_after, distance, with_byte, put}
+use Rattle.mv_base.specs.Memory.{Cell, Memory, distance, with_byte, put}
 use Rattle.proc_image.specs.declared.memory.Memory.{Memory as Pages}
 use Rattle.proc_image.specs.Paged.{page_of, cells, with_cell}
-use Rattle.proc_image.specs.Laws.{put-append}
 use Rattle.proc_image.proofs.Pages.{cells-page, cells-high}
 
 -- a mapped address lies below the limit, and its page has its place

@@ -1,9 +1,9 @@
 -- The values of one, two and four bytes.
-use Rattle.std.proofs.Common.{◌≡◌, ℕ, zero, suc, ◌+◌, ◌*◌, ◌/◌, ◌%◌, ◌^◌, ◌<◌, Bool, true, false, List, [], ◌∷◌, length, Option, Some, None, Result, Ok, Err, if◌then◌else◌, refl, sym, ap, ap₂, ◌∙◌, arith}
-use Rattle.byteorder.specs.Endian.{little_bytes, little_number}
+use Rattle.std.proofs.Common.{◌≡◌, ℕ, suc, ◌+◌, ◌*◌, ◌/◌, ◌%◌, Bool, true, false, [], ◌∷◌, Some, None, Ok, Err, if◌then◌else◌, refl, sym, ap, ap₂, ◌∙◌, arith}
+use Rattle.byteorder.specs.Endian.{little_number}
 use Rattle.mv_base.specs.Bytes.{number}
 use Rattle.mv_base.specs.Memory.{Memory, is_mapped, byte_of, address_after, first_failing, bytes_at, read_fault}
-use Rattle.proc_image.specs.Access.{IsByte, IsValueAt, IsRead}
+use Rattle.proc_image.specs.Access.{IsByte, IsValueAt}
 
 -- the first address fails, or the first that fails is one of the others
 pub first_failing-here : (test : ℕ → Bool) (a n : ℕ) → test a ≡ false → first_failing test a (suc n) ≡ Some a
@@ -48,7 +48,7 @@ unfolding number
 IsValueAt-word m a b c n first next is =
     let a' : ℕ = address_after a 1 in
     let bytes : bytes_at m a 2 ≡ b ∷ c ∷ [] =
-        bytes_at-next m a 1 ∙ ap₂ ◌∷◌ first.1 (bytes_at-next m a' 0 ∙ ap₂ ◌∷◌ next.1 (bytes_at-none m (address_after a' 1))) in
+    bytes_at-next m a 1 ∙ ap₂ ◌∷◌ first.1 (bytes_at-next m a' 0 ∙ ap₂ ◌∷◌ next.1 (bytes_at-none m (address_after a' 1))) in
     let small = first.2 in
     let small' = next.2 in
     let low : n % 256 ≡ b = omega arith in
@@ -70,8 +70,8 @@ IsValueAt-dword m a b c d e n first next third fourth is =
     let a'' : ℕ = address_after a' 1 in
     let a''' : ℕ = address_after a'' 1 in
     let bytes : bytes_at m a 4 ≡ b ∷ c ∷ d ∷ e ∷ [] =
-        bytes_at-next m a 3 ∙ ap₂ ◌∷◌ first.1 (bytes_at-next m a' 2 ∙ ap₂ ◌∷◌ next.1 (bytes_at-next m a'' 1 ∙ ap₂ ◌∷◌ third.1
-        (bytes_at-next m a''' 0 ∙ ap₂ ◌∷◌ fourth.1 (bytes_at-none m (address_after a''' 1))))) in
+    bytes_at-next m a 3 ∙ ap₂ ◌∷◌ first.1 (bytes_at-next m a' 2 ∙ ap₂ ◌∷◌ next.1 (bytes_at-next m a'' 1 ∙ ap₂ ◌∷◌ third.1
+    (bytes_at-next m a''' 0 ∙ ap₂ ◌∷◌ fourth.1 (bytes_at-none m (address_after a''' 1))))) in
     let small = first.2 in
     let small' = next.2 in
     let small'' = third.2 in

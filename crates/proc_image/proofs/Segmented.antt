@@ -1,6 +1,6 @@
 -- The pages and the cells of segments, one after the other.
 use mathlib.Core.Path.{fun_ext}
-use Rattle.std.proofs.Common.{◌≡◌, ℕ, zero, suc, ◌+◌, ◌-◌, ◌*◌, ◌/◌, ◌^◌, ◌<◌, ◌≤◌, Bool, true, false, List, [], ◌∷◌, length, take, drop, get_or, slice_index, max, Option, Some, None, is_some, nat_lt, if◌then◌else◌, refl, sym, ap, ap₂, ◌∙◌, arith, add-one, drop-cons}
+use Rattle.std.proofs.Common.{◌≡◌, ℕ, zero, suc, ◌+◌, ◌-◌, ◌*◌, ◌/◌, ◌<◌, ◌≤◌, Bool, true, false, List, [], ◌∷◌, length, take, drop, get_or, slice_index, max, Option, Some, None, is_some, nat_lt, if◌then◌else◌, refl, sym, ap, ap₂, ◌∙◌, arith, add-one, drop-cons}
 use Rattle.std.proofs.lemmas.Bool.Decides.{nat_tests}
 use Rattle.std.proofs.lemmas.List.{get_or-take, get_or-drop, get_or_past, length-take}
 use Rattle.mv_base.specs.Memory.{Cell, Memory, within, first_of, is_mapped}
@@ -13,7 +13,7 @@ use Rattle.elf32_read.specs.Segments.{IsPlaced, ArePlaced, ArePlaced-whole}
 use Rattle.proc_image.specs.Counting.{count_below, holds_mapped, mapped_pages, mapped_pages_in}
 use Rattle.proc_image.specs.Loading.{AreAscending, loaded_size}
 use Rattle.proc_image.specs.Mapping.{filled}
-use Rattle.proc_image.proofs.Counts.{some-none, count-same, count-add, count-all, count-none, count-zero}
+use Rattle.proc_image.proofs.Counts.{some-none, count-same, count-add, count-all, count-none}
 use Rattle.proc_image.proofs.Fills.{is_inside, is_below, is_above}
 use Rattle.proc_image.proofs.Fresh.{holds-same, holds-at}
 
@@ -96,11 +96,11 @@ pages-segment b s ss from free first end ascending free_is first_is end_is =
     let parts : count_below H (0x100000 - free) ≡ _ = ap (count_below H) all ∙ split H (first - free) (end - first) (0x100000 - end) in
     let before : count_below H (first - free) ≡ 0 = count-none H (first - free) (λ j below. pages-below b s ss from (free + j) ascending (omega arith)) in
     let inside : count_below (λ j. H (first - free + j)) (end - first) ≡ end - first =
-        count-all (λ j. H (first - free + j)) (end - first) (λ j below. page-inside b s ss (free + (first - free + j)) some (omega arith) (omega arith)) in
+    count-all (λ j. H (first - free + j)) (end - first) (λ j below. page-inside b s ss (free + (first - free + j)) some (omega arith) (omega arith)) in
     let after : count_below (λ k. H (first - free + (end - first + k))) (0x100000 - end) ≡ count_below (λ j. holds_mapped (load_in b ss) (end + j)) (0x100000 - end) =
-        count-same (λ j. holds_mapped (load_in b ss) (end + j)) (λ k. H (first - free + (end - first + k))) (0x100000 - end) (λ k below.
-        let place : free + (first - free + (end - first + k)) ≡ end + k = omega arith in
-        ap (holds_mapped (load_in b (s ∷ ss))) place ∙ page-above b s ss (end + k) (omega arith)) in
+    count-same (λ j. holds_mapped (load_in b ss) (end + j)) (λ k. H (first - free + (end - first + k))) (0x100000 - end) (λ k below.
+    let place : free + (first - free + (end - first + k)) ≡ end + k = omega arith in
+    ap (holds_mapped (load_in b (s ∷ ss))) place ∙ page-above b s ss (end + k) (omega arith)) in
     omega arith
 
 -- no segment has no page

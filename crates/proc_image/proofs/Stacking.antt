@@ -1,7 +1,7 @@
 -- The stack, part by part.
 use mathlib.Core.Path.{fun_ext}
-use Rattle.std.proofs.Common.{◌≡◌, ◌≢◌, ℕ, zero, suc, ◌+◌, ◌-◌, ◌*◌, ◌/◌, ◌%◌, ◌^◌, ◌<◌, ◌≤◌, Bool, true, false, ◌||◌, List, [], ◌∷◌, ◌++◌, length, drop, get_or, slice_index, Option, Some, None, is_some, nat_lt, nat_le, if◌then◌else◌, refl, sym, ap, ap₂, ◌∙◌, arith, add-one, drop-cons, length-append, replicate}
-use Rattle.std.specs.List.{flat_map, sum_by}
+use Rattle.std.proofs.Common.{◌≡◌, ℕ, zero, suc, ◌+◌, ◌-◌, ◌*◌, ◌/◌, ◌%◌, ◌^◌, ◌<◌, ◌≤◌, Bool, true, false, ◌||◌, List, [], ◌∷◌, ◌++◌, length, drop, get_or, slice_index, Option, Some, None, nat_lt, nat_le, if◌then◌else◌, refl, sym, ap, ap₂, ◌∙◌, arith, add-one, drop-cons, length-append, replicate, is_some}
+use Rattle.std.specs.List.{sum_by}
 use Rattle.std.specs.Option.{option_map}
 use Rattle.std.proofs.lemmas.Bool.Decides.{nat_tests}
 use Rattle.std.proofs.lemmas.List.{get_or_past}
@@ -9,13 +9,13 @@ use Rattle.std.proofs.lemmas.List.Sums.{sum_by-cons}
 use Rattle.std.proofs.lemmas.Grind.{flat_map-append}
 use Rattle.byteorder.specs.Endian.{little_bytes}
 use Rattle.mv_base.specs.Bytes.{words}
-use Rattle.mv_base.specs.Memory.{Cell, Memory, within, is_mapped, address_after, distance, with_byte, put}
+use Rattle.mv_base.specs.Memory.{Cell, Memory, within, first_of, joined, is_mapped, address_after, distance, with_byte, put}
 use Rattle.proc_image.specs.Counting.{some_below, holds_mapped}
 use Rattle.proc_image.specs.Mapping.{filled}
-use Rattle.proc_image.specs.Stack.{argument_bytes, arguments_at, pointers, stack_words, stack_pointer, stack_byte, with_stack, stack_taken}
+use Rattle.proc_image.specs.Stack.{argument_bytes, arguments_at, pointers, stack_words, stack_pointer, stack_byte, stack_cells, stack_taken}
 use Rattle.proc_image.specs.Laws.{put-append}
 use Rattle.proc_image.proofs.Counts.{some-here, some-none}
-use Rattle.proc_image.proofs.Fills.{inside, is_inside, is_below, is_above}
+use Rattle.proc_image.proofs.Fills.{inside, is_inside, is_above}
 use Rattle.proc_image.proofs.Pages.{at_padded}
 
 -- ---- whether it is taken
@@ -82,9 +82,9 @@ put-argument all m m1 m2 at len a slice rest slice_is len_is end left first seco
     let on : address_after at (length (a ++ 0 ∷ [])) ≡ at + len + 1 = omega arith in
     let zero_at : address_after at (length a) ≡ at + len = omega arith in
     let one : put m at (a ++ 0 ∷ []) ≡ m2 =
-        put-append m at a (0 ∷ []) (omega arith) (omega arith)
-        ∙ ap₂ (λ (n : Memory) (x : ℕ). put n x (0 ∷ [])) (ap (put m at) (sym slice_is) ∙ sym first) zero_at
-        ∙ sym second in
+    put-append m at a (0 ∷ []) (omega arith) (omega arith)
+    ∙ ap₂ (λ (n : Memory) (x : ℕ). put n x (0 ∷ [])) (ap (put m at) (sym slice_is) ∙ sym first) zero_at
+    ∙ sym second in
     left
     ∙ put-append m at (a ++ 0 ∷ []) rest (omega arith) (omega arith)
     ∙ ap₂ (λ (n : Memory) (x : ℕ). put n x rest) one on
@@ -174,6 +174,39 @@ zeroed : (m : Memory) (a : ℕ) → filled m 0xBFEFF000 0x100000 [] true false a
 unfolding filled
 zeroed m a = refl
 
+-- memory with the stack in place of what stood there
+unfoldable pub with_stack : Memory → List (List ℕ) → Memory
+with_stack m args a = if within 0xBFEFF000 0x100000 a then Some (record { byte = stack_byte args a; write = true; exec = false }) else m a
+
+-- a free stack has no cell
+free-at : (m : Memory) (a : ℕ) → stack_taken m ≡ false → within 0xBFEFF000 0x100000 a ≡ true → m a ≡ None
+unfolding stack_taken
+free-at m a free is = go (m a) refl
+  where
+    go : (c : Option Cell) → m a ≡ c → m a ≡ None
+    go None e = e
+    go (Some c) e =
+        let bounds = inside 0xBFEFF000 0x100000 a is in
+        let place : 0xBFEFF000 + (a - 0xBFEFF000) ≡ a = omega (arith, bounds.0) in
+        let taken : true ≡ false =
+        sym (some-here (λ k. is_mapped m (0xBFEFF000 + k)) 0x100000 (a - 0xBFEFF000) (omega (arith, bounds.0, bounds.1)) (ap (is_mapped m) place ∙ ap is_some e)) ∙ free in
+        cc
+
+-- where it was free, it stands beside the cells of before
+pub with_stack-joined : (m : Memory) (args : List (List ℕ)) → stack_taken m ≡ false → with_stack m args ≡ joined m (stack_cells args)
+unfolding with_stack stack_cells
+with_stack-joined m args free = fun_ext (λ a. go a (within 0xBFEFF000 0x100000 a) refl)
+  where
+    alone : (c : Option Cell) → c ≡ first_of c None
+    alone None = refl
+    alone (Some c) = refl
+
+    go : (a : ℕ) (t : Bool) → within 0xBFEFF000 0x100000 a ≡ t
+        → (if t then Some (record { byte = stack_byte args a; write = true; exec = false }) else m a)
+        ≡ first_of (m a) (if t then Some (record { byte = stack_byte args a; write = true; exec = false }) else None)
+    go a true e = rw (free-at m a free e) refl
+    go a false e = alone (m a)
+
 -- a writable cell
 abbrev writable : ℕ → Option Cell
 writable b = let c : Cell = record { byte = b; write = true; exec = false } in Some c
@@ -194,13 +227,13 @@ outside_above lo len a above out = grind (arith, nat_tests)
 -- the bytes of the arguments, and of the words below them
 byte_above : (args : List (List ℕ)) (a : ℕ) → nat_le (arguments_at args) a ≡ true
     → (if nat_le (arguments_at args) a then slice_index (argument_bytes args) (a - arguments_at args)
-      else (if nat_le (stack_pointer args) a then slice_index (words (stack_words args)) (a - stack_pointer args) else 0)) ≡ slice_index (argument_bytes args) (a - arguments_at args)
+    else (if nat_le (stack_pointer args) a then slice_index (words (stack_words args)) (a - stack_pointer args) else 0)) ≡ slice_index (argument_bytes args) (a - arguments_at args)
 byte_above args a above =
     ap (λ t. if t then slice_index (argument_bytes args) (a - arguments_at args) else (if nat_le (stack_pointer args) a then slice_index (words (stack_words args)) (a - stack_pointer args) else 0)) above
 
 byte_between : (args : List (List ℕ)) (a : ℕ) → nat_le (arguments_at args) a ≡ false → nat_le (stack_pointer args) a ≡ true
     → (if nat_le (arguments_at args) a then slice_index (argument_bytes args) (a - arguments_at args)
-      else (if nat_le (stack_pointer args) a then slice_index (words (stack_words args)) (a - stack_pointer args) else 0)) ≡ slice_index (words (stack_words args)) (a - stack_pointer args)
+    else (if nat_le (stack_pointer args) a then slice_index (words (stack_words args)) (a - stack_pointer args) else 0)) ≡ slice_index (words (stack_words args)) (a - stack_pointer args)
 byte_between args a below above =
     ap₂ (λ s t. if s then slice_index (argument_bytes args) (a - arguments_at args) else (if t then slice_index (words (stack_words args)) (a - stack_pointer args) else 0)) below above
 
@@ -211,11 +244,11 @@ stack-stands m args high few short = fun_ext (λ a.
     let wide = length-words (length args ∷ pointers (arguments_at args) args) in
     let count = length-pointers (arguments_at args) args in
     let zeros_high : (y : ℕ) → 2 ^ 32 ≤ y → filled m 0xBFEFF000 0x100000 [] true false y ≡ None =
-        λ y beyond. zeroed m y ∙ ap (λ t. if t then Some (record { byte = 0; write = true; exec = false }) else m y) (is_above 0xBFEFF000 0x100000 y (omega arith)) ∙ high y beyond in
+    λ y beyond. zeroed m y ∙ ap (λ t. if t then Some (record { byte = 0; write = true; exec = false }) else m y) (is_above 0xBFEFF000 0x100000 y (omega arith)) ∙ high y beyond in
     let args_high : (y : ℕ) → 2 ^ 32 ≤ y → put (filled m 0xBFEFF000 0x100000 [] true false) (arguments_at args) (argument_bytes args) y ≡ None =
-        λ y beyond. put-at (filled m 0xBFEFF000 0x100000 [] true false) (arguments_at args) (argument_bytes args) y (omega arith) (omega arith) zeros_high
-        ∙ ap (λ t. if t then option_map (with_byte (slice_index (argument_bytes args) (y - arguments_at args))) (filled m 0xBFEFF000 0x100000 [] true false y) else filled m 0xBFEFF000 0x100000 [] true false y)
-        (is_above (arguments_at args) (length (argument_bytes args)) y (omega arith)) ∙ zeros_high y beyond in
+    λ y beyond. put-at (filled m 0xBFEFF000 0x100000 [] true false) (arguments_at args) (argument_bytes args) y (omega arith) (omega arith) zeros_high
+    ∙ ap (λ t. if t then option_map (with_byte (slice_index (argument_bytes args) (y - arguments_at args))) (filled m 0xBFEFF000 0x100000 [] true false y) else filled m 0xBFEFF000 0x100000 [] true false y)
+    (is_above (arguments_at args) (length (argument_bytes args)) y (omega arith)) ∙ zeros_high y beyond in
     put-at (put (filled m 0xBFEFF000 0x100000 [] true false) (arguments_at args) (argument_bytes args)) (stack_pointer args) (words (length args ∷ pointers (arguments_at args) args)) a (omega arith) (omega arith) args_high
     ∙ ap (λ (c : Option Cell). if within (stack_pointer args) (length (words (length args ∷ pointers (arguments_at args) args))) a then option_map (with_byte (slice_index (words (length args ∷ pointers (arguments_at args) args)) (a - stack_pointer args))) c else c)
     (put-at (filled m 0xBFEFF000 0x100000 [] true false) (arguments_at args) (argument_bytes args) a (omega arith) (omega arith) zeros_high
@@ -225,13 +258,17 @@ stack-stands m args high few short = fun_ext (λ a.
     go : (a : ℕ) → length (words (length args ∷ pointers (arguments_at args) args)) ≡ 4 * suc (length args) → (i j k : Bool) → within 0xBFEFF000 0x100000 a ≡ i
         → within (arguments_at args) (length (argument_bytes args)) a ≡ j → within (stack_pointer args) (length (words (length args ∷ pointers (arguments_at args) args))) a ≡ k
         → (if k then option_map (with_byte (slice_index (words (length args ∷ pointers (arguments_at args) args)) (a - stack_pointer args)))
-              (if j then option_map (with_byte (slice_index (argument_bytes args) (a - arguments_at args))) (if i then Some (record { byte = 0; write = true; exec = false }) else m a)
-              else (if i then Some (record { byte = 0; write = true; exec = false }) else m a))
-          else (if j then option_map (with_byte (slice_index (argument_bytes args) (a - arguments_at args))) (if i then Some (record { byte = 0; write = true; exec = false }) else m a)
-              else (if i then Some (record { byte = 0; write = true; exec = false }) else m a)))
-        ≡ (if i then Some (record { byte =
+        (if j then option_map (with_byte (slice_index (argument_bytes args) (a - arguments_at args))) (if i then Some (record { byte = 0; write = true; exec = false }) else m a)
+        else (if i then Some (record { byte = 0; write = true; exec = false }) else m a))
+        else (if j then option_map (with_byte (slice_index (argument_bytes args) (a - arguments_at args))) (if i then Some (record { byte = 0; write = true; exec = false }) else m a)
+        else (if i then Some (record { byte = 0; write = true; exec = false }) else m a)))
+        ≡ (if i then Some (record {
+          byte =
               if nat_le (arguments_at args) a then slice_index (argument_bytes args) (a - arguments_at args)
-              else (if nat_le (stack_pointer args) a then slice_index (words (stack_words args)) (a - stack_pointer args) else 0); write = true; exec = false }) else m a)
+              else (if nat_le (stack_pointer args) a then slice_index (words (stack_words args)) (a - stack_pointer args) else 0);
+          write = true;
+          exec = false;
+        }) else m a)
     go a wide i true true is_i is_j is_k =
         let args_in = inside (arguments_at args) (length (argument_bytes args)) a is_j in
         let words_in = inside (stack_pointer args) (length (words (length args ∷ pointers (arguments_at args) args))) a is_k in
@@ -269,7 +306,7 @@ stack-stands m args high few short = fun_ext (λ a.
         zero_by : (a : ℕ) → nat_le (arguments_at args) a ≡ false → (t : Bool) → nat_le (stack_pointer args) a ≡ t
             → within (stack_pointer args) (length (words (length args ∷ pointers (arguments_at args) args))) a ≡ false
             → (if nat_le (arguments_at args) a then slice_index (argument_bytes args) (a - arguments_at args)
-              else (if nat_le (stack_pointer args) a then slice_index (words (stack_words args)) (a - stack_pointer args) else 0)) ≡ 0
+            else (if nat_le (stack_pointer args) a then slice_index (words (stack_words args)) (a - stack_pointer args) else 0)) ≡ 0
         zero_by a below true e out =
             let from : stack_pointer args ≤ a = grind (arith, nat_tests) in
             let past = outside_above (stack_pointer args) (length (words (length args ∷ pointers (arguments_at args) args))) a from out in

@@ -1,5 +1,5 @@
 -- A walk over addresses that looks for the first that fails a test. What is left of it gives the same as all of it.
-use Rattle.std.proofs.Common.{◌≡◌, ℕ, zero, suc, ◌+◌, ◌-◌, ◌<◌, ◌≤◌, Bool, true, false, Option, Some, None, if◌then◌else◌, refl, sym, ap, ◌∙◌, arith}
+use Rattle.std.proofs.Common.{◌≡◌, ℕ, suc, ◌+◌, ◌-◌, ◌<◌, ◌≤◌, Bool, true, false, Option, Some, None, sym, ap, ◌∙◌, arith}
 use Rattle.mv_base.specs.Memory.{address_after, first_failing}
 use Rattle.proc_image.proofs.Reading.{first_failing-here, first_failing-next, first_failing-none}
 

@@ -1,5 +1,5 @@
 -- What the accesses of instructions to memory give. This project's own.
-use Rattle.std.specs.Prelude.{◌≡◌, ℕ, ◌^◌, ◌<◌, true, false, List, length, Option, Some, None, Result, Ok, Err}
+use Rattle.std.specs.Prelude.{◌≡◌, ℕ, ◌^◌, ◌<◌, true, false, List, length, Some, None, Result, Ok, Err}
 use Rattle.byteorder.specs.Endian.{little_bytes}
 use Rattle.mv_base.specs.Bytes.{number}
 use Rattle.mv_base.specs.Memory.{Memory, read_fault, write_fault, is_mapped, byte_of, bytes_at, put}

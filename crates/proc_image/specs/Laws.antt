@@ -1,6 +1,6 @@
 -- Accesses in two parts, and what a write leaves as it was. Addresses go up modulo 2^32.
 use mathlib.Core.Path.{fun_ext}
-use Rattle.std.specs.Prelude.{◌≡◌, ℕ, zero, suc, ◌+◌, ◌-◌, ◌%◌, ◌^◌, ◌<◌, ◌≤◌, Bool, true, false, List, [], ◌∷◌, ◌++◌, length, Option, Some, None, is_some, nat_lt, slice_index, if◌then◌else◌}
+use Rattle.std.specs.Prelude.{◌≡◌, ℕ, zero, suc, ◌+◌, ◌-◌, ◌^◌, ◌<◌, ◌≤◌, Bool, true, false, List, ◌∷◌, ◌++◌, length, Option, Some, None, is_some, nat_lt, slice_index, if◌then◌else◌}
 use Rattle.std.specs.Option.{option_map}
 use Rattle.std.proofs.Common.{refl, sym, ap, ◌∙◌, arith, length-append}
 use Rattle.std.proofs.lemmas.Bool.Decides.{nat_tests}
@@ -100,7 +100,7 @@ put-append m a bs cs low most = fun_ext (λ x. ap (λ n. if nat_lt (distance a x
     go : (x : ℕ) (s t u : Bool) → nat_lt (distance a x) (length bs) ≡ s → nat_lt (distance a x) (length bs + length cs) ≡ t → nat_lt (distance (address_after a (length bs)) x) (length cs) ≡ u
         → (if t then option_map (with_byte (slice_index (bs ++ cs) (distance a x))) (m x) else m x)
         ≡ (if u then option_map (with_byte (slice_index cs (distance (address_after a (length bs)) x))) (if s then option_map (with_byte (slice_index bs (distance a x))) (m x) else m x)
-          else (if s then option_map (with_byte (slice_index bs (distance a x))) (m x) else m x))
+        else (if s then option_map (with_byte (slice_index bs (distance a x))) (m x) else m x))
     go x true true true is whole rest =
         let in_first : distance a x < length bs = grind (arith, nat_tests) in
         let in_second : distance (address_after a (length bs)) x < length cs = grind (arith, nat_tests) in

@@ -1,10 +1,10 @@
 -- The stack of a new process: its arguments at the top, and below them their number, pointers to them and ends of
 -- lists. System V ABI, Intel386 supplement, process initialization; the stack's place, size and alignment, the empty
 -- environment and the auxiliary list without entries are this project's own.
-use Rattle.std.specs.Prelude.{◌≡◌, ℕ, ◌+◌, ◌-◌, ◌*◌, ◌/◌, Bool, true, false, List, [], ◌∷◌, ◌++◌, length, Some, Result, Ok, Err, nat_le, slice_index, if◌then◌else◌}
+use Rattle.std.specs.Prelude.{◌≡◌, ℕ, ◌+◌, ◌-◌, ◌*◌, ◌/◌, Bool, true, false, List, [], ◌∷◌, ◌++◌, length, Some, None, Result, Ok, Err, nat_le, slice_index, if◌then◌else◌}
 use Rattle.std.specs.List.{flat_map}
 use Rattle.mv_base.specs.Bytes.{words}
-use Rattle.mv_base.specs.Memory.{Memory, within, is_mapped}
+use Rattle.mv_base.specs.Memory.{Memory, within, is_mapped, joined}
 use Rattle.proc_image.specs.declared.stack.StackFault.{StackFault}
 use Rattle.proc_image.specs.declared.stack.StackFault.TheVariants.{Taken, NoMemory}
 use Rattle.proc_image.specs.Counting.{some_below}
@@ -37,19 +37,19 @@ stack_byte args a =
     if nat_le (arguments_at args) a then slice_index (argument_bytes args) (a - arguments_at args)
     else (if nat_le (stack_pointer args) a then slice_index (words (stack_words args)) (a - stack_pointer args) else 0)
 
--- memory with the stack: writable cells from 0xBFEFF000 up to 0xBFFFF000
-unfoldable pub with_stack : Memory → List (List ℕ) → Memory
-with_stack m args a = if within 0xBFEFF000 0x100000 a then Some (record { byte = stack_byte args a; write = true; exec = false }) else m a
+-- the stack: writable cells from 0xBFEFF000 up to 0xBFFFF000
+unfoldable pub stack_cells : List (List ℕ) → Memory
+stack_cells args a = if within 0xBFEFF000 0x100000 a then Some (record { byte = stack_byte args a; write = true; exec = false }) else None
 
 -- an address of the stack is mapped
 unfoldable pub stack_taken : Memory → Bool
 stack_taken m = some_below (λ k. is_mapped m (0xBFEFF000 + k)) 0x100000
 
--- the stack was free and stands, with this stack pointer
+-- the stack was free and stands beside the cells of before, with this stack pointer
 pub record IsStack (old : Memory) (args : List (List ℕ)) (esp : ℕ) (new : Memory) : Type 0 where
   pub free : stack_taken old ≡ false
   pub pointer : esp ≡ stack_pointer args
-  pub stands : new ≡ with_stack old args
+  pub stands : new ≡ joined old (stack_cells args)
 
 -- the stack was taken, or it was free; nothing has changed
 pub record IsSameStack (old : Memory) (taken : Bool) (new : Memory) : Type 0 where

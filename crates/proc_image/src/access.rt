@@ -6,8 +6,8 @@ ghost use Rattle.mv_base.specs.Memory.{put, read_fault as first_unmapped, write_
 ghost use Rattle.proc_image.specs.Access.{IsByte, IsRead, IsWritten, byte_count};
 ghost use Rattle.proc_image.specs.Paged.{cells};
 
-use crate::memory::{LIMIT, Memory};
-use crate::page::PAGE_SIZE;
+use crate::limits::{LIMIT, PAGE_SIZE};
+use crate::memory::Memory;
 use byteorder::{ByteOrder, LittleEndian};
 use x86_insn::Width;
 
@@ -163,12 +163,12 @@ impl Memory {
         ensures copied { to.new ≡ executable_bytes (exec_byte (cells self.now)) at 15 ++ drop (length (executable_bytes (exec_byte (cells self.now)) at 15)) to.old }
         ensures number { result ≡ length (executable_bytes (exec_byte (cells self.now)) at 15) }
     {
-        let place = (at % 4_096) as usize;
+        let place = at % PAGE_SIZE;
         if at < LIMIT
             && place + 15 <= PAGE_SIZE
-            && let Some(page) = self.page(at / 4_096)
+            && let Some(page) = self.page(at / PAGE_SIZE)
         {
-            return page.exec_bytes(place, to);
+            return page.exec_bytes(place as usize, to);
         }
         self.exec_bytes_apart(at, to)
     }

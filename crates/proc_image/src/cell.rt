@@ -55,6 +55,10 @@ impl Cell {
     pub fn with_byte(self, byte: u8) -> Cell
         ensures { result ≡ record self { byte = byte } }
     {
-        Cell { byte, write: self.write, exec: self.exec }
+        Cell {
+            byte,
+            write: self.write,
+            exec: self.exec,
+        }
     }
 }

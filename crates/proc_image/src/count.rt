@@ -4,10 +4,8 @@ ghost use Rattle.std.specs.Prelude.{◌≡◌, ◌+◌, ◌^◌, ◌≤◌, [], 
 ghost use Rattle.proc_image.specs.Counting.{holds_mapped, mapped_pages, mapped_pages_in};
 ghost use Rattle.proc_image.specs.Paged.{cells, page_of};
 
+use crate::limits::TABLE_SIZE;
 use crate::memory::Memory;
-
-/// How many tables a directory has, and how many pages a table.
-const TABLES: u32 = 1_024;
 
 /// The number of the first page that no memory has.
 const LIMIT_PAGE: u32 = 0xF_FFFF;
@@ -18,9 +16,9 @@ impl Memory {
         ensures { result ≡ mapped_pages (cells self.now) }
     {
         let mut pages = 0;
-        for table in 0..TABLES {
+        for table in 0..TABLE_SIZE {
             if !self.is_table_absent(table) {
-                pages += self.mapped_pages_in(TABLES * table, TABLES);
+                pages += self.mapped_pages_in(TABLE_SIZE * table, TABLE_SIZE);
             }
         }
         pages

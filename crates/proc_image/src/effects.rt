@@ -9,7 +9,7 @@ ghost use Rattle.proc_image.specs.Counting.{mapped_pages, some_below};
 ghost use Rattle.proc_image.specs.Mapping.{filled};
 ghost use Rattle.proc_image.specs.Paged.{cells};
 
-use crate::limits::{MOST_MAPPED, PAGE_BYTES};
+use crate::limits::{MOST_MAPPED, PAGE_BYTES, PAGE_SIZE};
 use crate::memory::Memory;
 use mv_base::NoMemory;
 use syscall_log::{Effect, Mode};
@@ -54,9 +54,12 @@ impl Memory {
     {
         match effect {
             Effect::Write { lo, bytes } => self.apply_write(*lo, bytes.as_slice()),
-            Effect::Map { lo, len, mode, bytes } => {
-                self.apply_map(*lo, *len, *mode, bytes.as_slice())
-            }
+            Effect::Map {
+                lo,
+                len,
+                mode,
+                bytes,
+            } => { self.apply_map(*lo, *len, *mode, bytes.as_slice()) }
             Effect::Unmap { lo, len } => self.apply_unmap(*lo, *len),
         }
     }
@@ -81,13 +84,7 @@ impl Memory {
     }
 
     /// Maps `len` new cells from `lo` on.
-    fn apply_map(
-        &mut self,
-        lo: u32,
-        len: u32,
-        mode: Mode,
-        bytes: &[u8],
-    ) -> Result<(), EffectFault>
+    fn apply_map(&mut self, lo: u32, len: u32, mode: Mode, bytes: &[u8]) -> Result<(), EffectFault>
         requires some { 0 < len }
         requires low { lo + len ≤ 0xFFFFF000 }
         ensures { IsApplied (cells self.old) (MapAt lo len (mode_of mode) bytes.now) (cells self.new) result }
@@ -124,8 +121,8 @@ impl Memory {
         requires low { lo + len ≤ 0xFFFFF000 }
         ensures { (bytes : List ℕ) (write exec : Bool) → result ≡ mapped_pages (filled (cells self.now) lo len bytes write exec) }
     {
-        let first = lo / 4_096;
-        let count = (lo + len + 4_095) / 4_096 - first;
+        let first = lo / PAGE_SIZE;
+        let count = (lo + len + 4_095) / PAGE_SIZE - first;
         self.mapped_pages() + (count - self.mapped_pages_in(first, count))
     }
 
@@ -137,7 +134,7 @@ impl Memory {
         let end = lo + len;
         let mut at = lo;
         while at < end {
-            let next = end.min((at / 4_096 + 1) * 4_096);
+            let next = end.min((at / PAGE_SIZE + 1) * PAGE_SIZE);
             if self.has_code(at, next - at) {
                 return true;
             }
@@ -152,7 +149,7 @@ impl Memory {
         requires page { lo % 4096 + len ≤ 4096 }
         ensures { result ≡ some_below (λ j. is_executable (cells self.now) (lo + j)) len }
     {
-        if self.is_page_absent(lo / 4_096) {
+        if self.is_page_absent(lo / PAGE_SIZE) {
             return false;
         }
         for place in 0..len {

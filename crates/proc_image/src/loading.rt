@@ -9,7 +9,7 @@ ghost use Rattle.proc_image.specs.Counting.{mapped_pages};
 ghost use Rattle.proc_image.specs.Loading.{AreAscending, IsLoaded};
 ghost use Rattle.proc_image.specs.Paged.{cells};
 
-use crate::limits::{MOST_MAPPED, PAGE_BYTES, STACK_BYTES};
+use crate::limits::{MOST_MAPPED, PAGE_BYTES, PAGE_SIZE, STACK_BYTES};
 use crate::memory::Memory;
 use elf32_read::{Image, Segment};
 use mv_base::NoMemory;
@@ -44,7 +44,7 @@ pub fn load(alloc: Global, image: &Image, bytes: &[u8]) -> Result<Memory, LoadFa
     ensures { IsLoaded bytes.now result }
 {
     let segments = image.segments.as_slice();
-    let size = PAGE_BYTES * u64::from(page_count(segments)) + STACK_BYTES;
+    let size = PAGE_BYTES * u64::from(page_count(segments)) + STACK_BYTES as u64;
     if size > MOST_MAPPED {
         return Err(LoadFault::TooLarge(size));
     }
@@ -59,7 +59,7 @@ fn page_count(segments: &[Segment]) -> u32
     let mut pages = 0;
     let mut end = 0;
     for segment in segments {
-        let first = pages_below(end).max(segment.range.lo() / 4_096);
+        let first = pages_below(end).max(segment.range.lo() / PAGE_SIZE);
         end = segment.range.lo() + segment.range.len();
         pages += pages_below(end) - first;
     }
@@ -71,7 +71,7 @@ fn pages_below(end: u32) -> u32
     requires { end ≤ 0xFFFFF000 }
     ensures { result ≡ (end + 4095) / 4096 }
 {
-    (end + 4_095) / 4_096
+    (end + 4_095) / PAGE_SIZE
 }
 
 /// Memory with the cells of segments, in which the first segment with an address counts.

@@ -7,6 +7,7 @@ ghost use Rattle.proc_image.specs.Mapping.{filled};
 ghost use Rattle.proc_image.specs.Paged.{cells, page_of};
 
 use crate::cell::Cell;
+use crate::limits::PAGE_SIZE;
 use crate::memory::Memory;
 use mv_base::NoMemory;
 
@@ -36,7 +37,7 @@ impl Memory {
         ensures same { cells self.new ≡ cells self.old }
         ensures room { OnOk result ((a : ℕ) → lo ≤ a → a < lo + len → a % 4096 < length (page_of self.new (a / 4096))) }
     {
-        for page in lo / 4_096..(lo + len + 4_095) / 4_096 {
+        for page in lo / PAGE_SIZE..(lo + len + 4_095) / PAGE_SIZE {
             self.reserve(page)?;
         }
         Ok(())

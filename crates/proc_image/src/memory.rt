@@ -4,12 +4,10 @@ ghost use Rattle.std.specs.Prelude.{◌≡◌, ◌/◌, ◌%◌, ◌<◌, ◌≤
 ghost use Rattle.proc_image.specs.Paged.{cells, page_of, table_of, with_cell};
 
 use crate::cell::Cell;
+use crate::limits::{LIMIT, PAGE_SIZE, TABLE_SIZE};
 use crate::page::{Page, PageTable};
 use mv_base::NoMemory;
 use std::alloc::Global;
-
-/// The first address that no memory has.
-pub(crate) const LIMIT: u32 = 0xFFFF_F000;
 
 /// Memory: a cell at each mapped address below 0xFFFFF000. As on i386 a directory has 1,024 tables of 1,024 pages of
 /// 4,096 cells; a table or a page that isn't there is empty.
@@ -52,9 +50,8 @@ impl Memory {
     pub(crate) fn page(&self, number: u32) -> Option<&Page>
         ensures { MatchOption result (page_of self.now number ≡ []) (λ p. p.now ≡ page_of self.now number) }
     {
-        let number = number as usize;
-        match self.table(number / 1_024) {
-            Some(table) => table.page(number % 1_024),
+        match self.table((number / TABLE_SIZE) as usize) {
+            Some(table) => table.page((number % TABLE_SIZE) as usize),
             None => None,
         }
     }
@@ -76,8 +73,8 @@ impl Memory {
         if at >= LIMIT {
             return None;
         }
-        match self.page(at / 4_096) {
-            Some(page) => page.cell((at % 4_096) as usize),
+        match self.page(at / PAGE_SIZE) {
+            Some(page) => page.cell((at % PAGE_SIZE) as usize),
             None => None,
         }
     }
@@ -89,8 +86,12 @@ impl Memory {
         ensures here { cells self.new ≡ with_cell (cells self.old) at cell }
         ensures room { (q : ℕ) → length (page_of self.new q) ≡ length (page_of self.old q) }
     {
-        let number = (at / 4_096) as usize;
-        self.directory[number / 1_024].set(number % 1_024, (at % 4_096) as usize, cell);
+        let number = at / PAGE_SIZE;
+        self.directory[(number / TABLE_SIZE) as usize].set(
+            (number % TABLE_SIZE) as usize,
+            (at % PAGE_SIZE) as usize,
+            cell,
+        );
     }
 
     /// Makes room for all cells of a page. The mapped cells stay, also where memory is wanting.
@@ -99,10 +100,10 @@ impl Memory {
         ensures longer { (q : ℕ) → length (page_of self.old q) ≤ length (page_of self.new q) }
         ensures room { OnOk result (4096 ≤ length (page_of self.new number)) }
     {
-        let number = number as usize;
-        while self.directory.len() <= number / 1_024 {
+        let table = (number / TABLE_SIZE) as usize;
+        while self.directory.len() <= table {
             self.directory.push(PageTable::new(self.alloc))?;
         }
-        self.directory[number / 1_024].reserve(self.alloc, number % 1_024)
+        self.directory[table].reserve(self.alloc, (number % TABLE_SIZE) as usize)
     }
 }

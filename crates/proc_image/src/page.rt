@@ -7,12 +7,10 @@ ghost use Rattle.proc_image.specs.Counting.{some_below};
 ghost use Rattle.proc_image.specs.Paged.{IsLonger, exec_byte_in, is_mapped_in};
 
 use crate::cell::Cell;
+use crate::limits::PAGE_SIZE;
 use mv_base::NoMemory;
 use std::alloc::Global;
 use std::marker::Model;
-
-/// How many cells a page has.
-pub const PAGE_SIZE: usize = 4_096;
 
 /// The cells of a page in their order, or none.
 #[derive(Drop)]
@@ -63,7 +61,7 @@ impl Page {
         if self.is_empty() {
             return false;
         }
-        for place in 0..PAGE_SIZE {
+        for place in 0..PAGE_SIZE as usize {
             if self.cell(place).is_some() {
                 return true;
             }
@@ -109,8 +107,8 @@ impl Page {
         ensures longer { IsLonger self.old self.new }
         ensures room { OnOk result (4096 ≤ length self.new) }
     {
-        if self.cells.len() < PAGE_SIZE {
-            self.cells.resize(PAGE_SIZE, None)?;
+        if self.cells.len() < PAGE_SIZE as usize {
+            self.cells.resize(PAGE_SIZE as usize, None)?;
         }
         Ok(())
     }

@@ -6,7 +6,7 @@ ghost use Rattle.mv_base.specs.Memory.{put};
 ghost use Rattle.proc_image.specs.Paged.{cells};
 ghost use Rattle.proc_image.specs.Stack.{IsStarted, argument_bytes, pointers, stack_taken};
 
-use crate::limits::{STACK_BYTES, STACK_END, STACK_START};
+use crate::limits::{PAGE_SIZE, STACK_BYTES, STACK_END, STACK_START};
 use crate::memory::Memory;
 use mv_base::{Bytes, NoMemory};
 use syscall_log::Log;
@@ -43,7 +43,7 @@ impl Memory {
         if self.is_stack_taken() {
             return Err(StackFault::Taken);
         }
-        self.map(STACK_START, STACK_BYTES as u32, &[], true, false)?;
+        self.map(STACK_START, STACK_BYTES, &[], true, false)?;
         let args = log.args.as_slice();
         let start = STACK_END - arguments_len(args);
         let pointer = (start - 4 * (args.len() as u32 + 5)) / 16 * 16;
@@ -56,7 +56,7 @@ impl Memory {
     fn is_stack_taken(&self) -> bool
         ensures { result ≡ stack_taken (cells self.now) }
     {
-        for page in STACK_START / 4_096..STACK_END / 4_096 {
+        for page in STACK_START / PAGE_SIZE..STACK_END / PAGE_SIZE {
             if self.holds_mapped(page) {
                 return true;
             }

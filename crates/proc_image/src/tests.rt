@@ -106,7 +106,10 @@ fn takes_no_stack_where_data_stands(rt: HostRuntime) -> Result<(), Fail> {
 #[test]
 fn writes_whole_or_not_at_all(rt: HostRuntime) -> Result<(), Fail> {
     let mut memory = loaded(rt.alloc(), &with_data(0x1000_0000, 0x1001))?;
-    assert_eq!(rt; memory.write(0x1000_0FFE, Width::D, 0x1122_3344), Err(0x1000_1001));
+    assert_eq!(rt;
+        memory.write(0x1000_0FFE, Width::D, 0x1122_3344),
+        Err(0x1000_1001)
+    );
     assert_eq!(rt; memory.read(0x1000_0FFE, Width::W), Ok(0));
     assert_eq!(rt; memory.write(0x1000_0FFD, Width::D, 0x1122_3344), Ok(()));
     assert_eq!(rt; memory.read(0x1000_0FFF, Width::W), Ok(0x1122));
@@ -119,19 +122,54 @@ fn writes_whole_or_not_at_all(rt: HostRuntime) -> Result<(), Fail> {
 fn applies_effects(rt: HostRuntime) -> Result<(), Fail> {
     let alloc = rt.alloc();
     let mut memory = loaded(alloc, &TWO_HEADERS)?;
-    let map = |lo: u32, len: u32, mode: Mode, of: Bytes| Effect::Map { lo, len, mode, bytes: of };
+    let map = |lo: u32, len: u32, mode: Mode, of: Bytes| Effect::Map {
+        lo,
+        len,
+        mode,
+        bytes: of,
+    };
     let write = |lo: u32, of: Bytes| Effect::Write { lo, bytes: of };
     let rows = [
-        (map(0x4000_0000, 0x1000, Mode::Exec, bytes(alloc, b"")?), Err(EffectFault::Executable)),
-        (map(0x0804_8000, 0x1000, Mode::Write, bytes(alloc, b"")?), Err(EffectFault::Executable)),
-        (write(0x4000_0000, bytes(alloc, &[0])?), Err(EffectFault::NotMapped(0x4000_0000))),
-        (map(0x4000_0000, 0x0400_0000, Mode::Write, bytes(alloc, b"")?), Err(EffectFault::TooLarge(67_117_056))),
-        (map(0x4000_0000, 0x1001, Mode::Write, bytes(alloc, &[7, 8])?), Ok(())),
+        (
+            map(0x4000_0000, 0x1000, Mode::Exec, bytes(alloc, b"")?),
+            Err(EffectFault::Executable),
+        ),
+        (
+            map(0x0804_8000, 0x1000, Mode::Write, bytes(alloc, b"")?),
+            Err(EffectFault::Executable),
+        ),
+        (
+            write(0x4000_0000, bytes(alloc, &[0])?),
+            Err(EffectFault::NotMapped(0x4000_0000)),
+        ),
+        (
+            map(0x4000_0000, 0x0400_0000, Mode::Write, bytes(alloc, b"")?),
+            Err(EffectFault::TooLarge(67_117_056)),
+        ),
+        (
+            map(0x4000_0000, 0x1001, Mode::Write, bytes(alloc, &[7, 8])?),
+            Ok(()),
+        ),
         (map(0x4000_0001, 1, Mode::Read, bytes(alloc, b"")?), Ok(())),
-        (write(0x4000_0000, bytes(alloc, &[1, 2])?), Err(EffectFault::NotWritable(0x4000_0001))),
+        (
+            write(0x4000_0000, bytes(alloc, &[1, 2])?),
+            Err(EffectFault::NotWritable(0x4000_0001)),
+        ),
         (write(0x4000_0000, bytes(alloc, &[9])?), Ok(())),
-        (Effect::Unmap { lo: 0x4000_0FFF, len: 3 }, Err(EffectFault::NotMapped(0x4000_1001))),
-        (Effect::Unmap { lo: 0x4000_0002, len: 2 }, Ok(())),
+        (
+            Effect::Unmap {
+                lo: 0x4000_0FFF,
+                len: 3,
+            },
+            Err(EffectFault::NotMapped(0x4000_1001)),
+        ),
+        (
+            Effect::Unmap {
+                lo: 0x4000_0002,
+                len: 2,
+            },
+            Ok(()),
+        ),
     ];
     for (effect, answer) in rows {
         assert!(rt; effect.keeps_bounds());

@@ -9,6 +9,7 @@ use mv_base::Bytes;
 
 /// The most arguments, and the most bytes that they have together with one ending zero each.
 const MOST_ARGUMENTS: usize = 1_024;
+
 const MOST_BYTES: usize = 65_536;
 
 /// Whether arguments keep the bounds of a log.

@@ -20,7 +20,10 @@ pub enum Mode {
 #[derive(Drop)]
 pub enum Effect {
     /// Bytes written to mapped cells from `lo` on.
-    Write { lo: u32, bytes: Bytes },
+    Write {
+        lo: u32,
+        bytes: Bytes,
+    },
     /// `len` cells made anew from `lo` on: `bytes`, of which there are at most `len`, and then zeros.
     Map {
         lo: u32,
@@ -29,7 +32,10 @@ pub enum Effect {
         bytes: Bytes,
     },
     /// `len` cells taken away from `lo` on.
-    Unmap { lo: u32, len: u32 },
+    Unmap {
+        lo: u32,
+        len: u32,
+    },
 }
 
 impl Effect {
@@ -39,7 +45,12 @@ impl Effect {
     {
         match self {
             Effect::Write { lo, bytes } => in_bounds(*lo, bytes.len() as u64, bytes),
-            Effect::Map { lo, len, mode: _, bytes } => in_bounds(*lo, u64::from(*len), bytes),
+            Effect::Map {
+                lo,
+                len,
+                mode: _,
+                bytes,
+            } => in_bounds(*lo, u64::from(*len), bytes),
             Effect::Unmap { lo, len } => is_range(*lo, u64::from(*len)),
         }
     }

@@ -5,7 +5,7 @@ ghost use Rattle.syscall_log.specs.Rules.{IsLog, IsLog-prop};
 
 use crate::answer::AnswerList;
 use crate::args::Args;
-use crate::bounds::{are_arguments, are_answers};
+use crate::bounds::{are_answers, are_arguments};
 
 /// What a traced program is given: at most 1,024 arguments without a zero byte, which have at most 65,536 bytes with one
 /// ending zero each, and answers whose effects keep their bounds, of which at most the last ends the program.

@@ -1,6 +1,5 @@
-use Rattle.std.proofs.Common.{◌≡◌, ℕ, ◌+◌, ◌*◌, ap, ◌∙◌, arith}
+use Rattle.std.proofs.Common.{◌∙◌, arith}
 use Rattle.std.proofs.lemmas.Result.{err_from_is_err_and}
-use Rattle.proc_image.specs.Loading.{loaded_size}
 use Rattle.proc_image.specs.Paged.{cells}
 use Rattle.proc_image.proofs.Segmented.{AreAscending-placed, ArePlaced-image, loaded_size-image, loaded-image}
 use Rattle.proc_image.proofs.loading.load.Goals as goal

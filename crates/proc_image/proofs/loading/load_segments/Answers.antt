@@ -1,9 +1,8 @@
-use Rattle.std.proofs.Common.{◌≡◌, ℕ, ◌+◌, ◌-◌, ◌<◌, ◌≤◌, Bool, List, [], ◌∷◌, length, drop, take, sym, ap, subst, ◌∙◌, arith}
+use Rattle.std.proofs.Common.{◌≡◌, ℕ, ◌+◌, ◌-◌, ◌≤◌, List, ◌∷◌, length, drop, sym, ap, subst, ◌∙◌, arith}
 use Rattle.std.proofs.lemmas.List.{drop_all}
 use Rattle.mv_base.specs.Memory.{Memory}
 use Rattle.elf32_read.specs.declared.image.Segment.{Segment}
 use Rattle.elf32_read.specs.Load.{load_in}
-use Rattle.elf32_read.specs.Segments.{IsPlaced}
 use Rattle.proc_image.specs.Mapping.{filled}
 use Rattle.proc_image.specs.Paged.{cells}
 use Rattle.proc_image.proofs.Segmented.{IsPlaced-at, filled-segment, no-segments, drop-next}
@@ -26,7 +25,7 @@ pub map-requires : goal.map-requires
 map-requires c =
     let placed = IsPlaced-at c.args.bytes.now 0 c.args.segments.now (c.loop-left.left - 1) c.index-segments-left.result c.requires (omega arith) in
     let same : c.index-segments-left.result.range.lo + c.index-segments-left.result.range.len ≤ 0xFFFFF000 =
-        subst (λ (s : Segment). s.range.lo + s.range.len ≤ 0xFFFFF000) (sym c.index-segments-left.is) placed.1.low in
+    subst (λ (s : Segment). s.range.lo + s.range.len ≤ 0xFFFFF000) (sym c.index-segments-left.is) placed.1.low in
     omega arith
 
 pub loop-left-preserved : goal.loop-left-preserved
@@ -35,7 +34,7 @@ loop-left-preserved c =
     let s : Segment = c.index-segments-left.result in
     let more : i + 1 ≡ c.loop-left.left = omega arith in
     let next : drop i c.args.segments.now ≡ s ∷ drop c.loop-left.left c.args.segments.now =
-        drop-next c.args.segments.now i s (omega arith) c.index-segments-left.is ∙ ap (λ (n : ℕ). s ∷ drop n c.args.segments.now) more in
+    drop-next c.args.segments.now i s (omega arith) c.index-segments-left.is ∙ ap (λ (n : ℕ). s ∷ drop n c.args.segments.now) more in
     record {
       within = omega arith;
       loaded =

@@ -6,7 +6,7 @@ use Rattle.proc_image.proofs.loading.load_segments.Given as goal
 abbrev pub invariant-loop-left : goal.invariant-loop-left
 invariant-loop-left l = record {
   within : l.left ≤ length l.segments;
-  loaded : cells l.memory ≡ load_in l.bytes (drop l.left l.segments)
+  loaded : cells l.memory ≡ load_in l.bytes (drop l.left l.segments);
 }
 
 abbrev pub decreases-loop-left : goal.decreases-loop-left

@@ -1,8 +1,8 @@
-use Rattle.std.proofs.Common.{◌≡◌, ℕ, ◌+◌, ◌-◌, ◌/◌, ◌<◌, ◌≤◌, List, [], ◌∷◌, length, drop, max, refl, sym, ap, subst, ◌∙◌, arith}
+use Rattle.std.proofs.Common.{◌≡◌, ℕ, ◌+◌, ◌-◌, ◌/◌, List, [], ◌∷◌, drop, sym, ap, subst, ◌∙◌, arith}
 use Rattle.std.proofs.lemmas.List.{drop_all}
 use Rattle.elf32_read.specs.declared.image.Segment.{Segment}
 use Rattle.elf32_read.specs.Load.{load_in}
-use Rattle.proc_image.specs.Counting.{mapped_pages, mapped_pages_in}
+use Rattle.proc_image.specs.Counting.{mapped_pages_in}
 use Rattle.proc_image.specs.Loading.{AreAscending}
 use Rattle.proc_image.proofs.Segmented.{pages-segment, pages-none, pages-all, drop-next}
 use Rattle.proc_image.proofs.loading.page_count.Goals as goal
@@ -27,12 +27,12 @@ loop-segment-preserved c =
           let pages = pages-segment b s rest c.loop-segment.end c.pages_below.result c.max-first.result c.pages_below-in-loop-segment.result ascending (omega arith) (omega arith) (omega arith) in
           let before = c.loop-segment.invariant.counted b in
           let same : mapped_pages_in (load_in b (drop i c.args.segments.now)) ((c.loop-segment.end + 4095) / 4096) (0x100000 - (c.loop-segment.end + 4095) / 4096)
-                  ≡ mapped_pages_in (load_in b (s ∷ rest)) c.pages_below.result (0x100000 - c.pages_below.result) =
-              ap (λ (ss : List Segment). mapped_pages_in (load_in b ss) ((c.loop-segment.end + 4095) / 4096) (0x100000 - (c.loop-segment.end + 4095) / 4096)) next
-              ∙ ap (λ (n : ℕ). mapped_pages_in (load_in b (s ∷ rest)) n (0x100000 - n)) (sym c.pages_below.ensures) in
+          ≡ mapped_pages_in (load_in b (s ∷ rest)) c.pages_below.result (0x100000 - c.pages_below.result) =
+          ap (λ (ss : List Segment). mapped_pages_in (load_in b ss) ((c.loop-segment.end + 4095) / 4096) (0x100000 - (c.loop-segment.end + 4095) / 4096)) next
+          ∙ ap (λ (n : ℕ). mapped_pages_in (load_in b (s ∷ rest)) n (0x100000 - n)) (sym c.pages_below.ensures) in
           let after : mapped_pages_in (load_in b rest) c.pages_below-in-loop-segment.result (0x100000 - c.pages_below-in-loop-segment.result)
-                  ≡ mapped_pages_in (load_in b rest) ((c.lo-in-loop-segment.result + c.len.result + 4095) / 4096) (0x100000 - (c.lo-in-loop-segment.result + c.len.result + 4095) / 4096) =
-              ap (λ (n : ℕ). mapped_pages_in (load_in b rest) n (0x100000 - n)) c.pages_below-in-loop-segment.ensures in
+          ≡ mapped_pages_in (load_in b rest) ((c.lo-in-loop-segment.result + c.len.result + 4095) / 4096) (0x100000 - (c.lo-in-loop-segment.result + c.len.result + 4095) / 4096) =
+          ap (λ (n : ℕ). mapped_pages_in (load_in b rest) n (0x100000 - n)) c.pages_below-in-loop-segment.ensures in
           omega arith;
     }
 
@@ -40,7 +40,7 @@ pub returns : goal.returns
 returns c b =
     let none : drop c.loop-segment.segment-index c.args.segments.now ≡ [] = drop_all c.loop-segment.segment-index c.args.segments.now c.loop-segment-test.false in
     let last : mapped_pages_in (load_in b (drop c.loop-segment.segment-index c.args.segments.now)) ((c.loop-segment.end + 4095) / 4096) (0x100000 - (c.loop-segment.end + 4095) / 4096) ≡ 0 =
-        ap (λ (ss : List Segment). mapped_pages_in (load_in b ss) ((c.loop-segment.end + 4095) / 4096) (0x100000 - (c.loop-segment.end + 4095) / 4096)) none
-        ∙ pages-none b ((c.loop-segment.end + 4095) / 4096) (0x100000 - (c.loop-segment.end + 4095) / 4096) in
+    ap (λ (ss : List Segment). mapped_pages_in (load_in b ss) ((c.loop-segment.end + 4095) / 4096) (0x100000 - (c.loop-segment.end + 4095) / 4096)) none
+    ∙ pages-none b ((c.loop-segment.end + 4095) / 4096) (0x100000 - (c.loop-segment.end + 4095) / 4096) in
     let all = c.loop-segment.invariant.counted b in
     omega arith

@@ -9,5 +9,5 @@ invariant-loop-segment l = record {
   low : l.end ≤ 0xFFFFF000;
   most : l.pages ≤ (l.end + 4095) / 4096;
   ascending : AreAscending l.end (drop l.segment-index l.segments);
-  counted : (b : List ℕ) → mapped_pages (load_in b l.segments) ≡ l.pages + mapped_pages_in (load_in b (drop l.segment-index l.segments)) ((l.end + 4095) / 4096) (0x100000 - (l.end + 4095) / 4096)
+  counted : (b : List ℕ) → mapped_pages (load_in b l.segments) ≡ l.pages + mapped_pages_in (load_in b (drop l.segment-index l.segments)) ((l.end + 4095) / 4096) (0x100000 - (l.end + 4095) / 4096);
 }

@@ -7,5 +7,5 @@ invariant-loop-answer l =
     record {
       left_is : l.left + l.answer-index ≡ length l.answers;
       back : AreAnswers (drop l.answer-index l.answers) → AreAnswers l.answers;
-      on : AreAnswers l.answers → AreAnswers (drop l.answer-index l.answers)
+      on : AreAnswers l.answers → AreAnswers (drop l.answer-index l.answers);
     }

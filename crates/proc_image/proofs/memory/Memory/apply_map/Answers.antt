@@ -1,9 +1,8 @@
-use Rattle.std.proofs.Common.{◌≡◌, ◌≤◌, ◌*◌, false, Bool, ℕ, refl, sym, ap, ap₂, ◌∙◌, arith}
+use Rattle.std.proofs.Common.{◌≡◌, ◌*◌, Bool, ℕ, refl, ap, ap₂, ◌∙◌, arith}
 use Rattle.std.proofs.lemmas.Result.{err_from_is_err_and}
 use Rattle.mv_base.specs.Effects.{MapAt, is_write_mode, is_exec_mode, applied}
-use Rattle.mv_base.specs.Memory.{Memory}
 use Rattle.syscall_log.specs.Meaning.{mode_of}
-use Rattle.proc_image.specs.Counting.{mapped_pages, mapped_size}
+use Rattle.proc_image.specs.Counting.{mapped_size}
 use Rattle.proc_image.specs.Mapping.{filled}
 use Rattle.proc_image.specs.Paged.{cells}
 use Rattle.proc_image.proofs.Effecting.{refusal-map, applied-map}
@@ -24,8 +23,8 @@ pub returns-in_err-map : goal.returns-in_err-map
 returns-in_err-map c =
     let p = err_from_is_err_and c.from_residual.result c.from_residual.ensures.1 in
     let size : 4096 * c.from-size.result ≡ mapped_size (applied (cells c.args.self.now) (MapAt c.args.lo c.args.len (mode_of c.args.mode) c.args.bytes.now)) =
-        ap (λ (n : ℕ). 4096 * n) (c.from-size.ensures ∙ c.pages_with.ensures c.args.bytes.now (is_write_mode (mode_of c.args.mode)) (is_exec_mode (mode_of c.args.mode)))
-        ∙ ap mapped_size (applied-map (cells c.args.self.now) c.args.lo c.args.len (mode_of c.args.mode) c.args.bytes.now) in
+    ap (λ (n : ℕ). 4096 * n) (c.from-size.ensures ∙ c.pages_with.ensures c.args.bytes.now (is_write_mode (mode_of c.args.mode)) (is_exec_mode (mode_of c.args.mode)))
+    ∙ ap mapped_size (applied-map (cells c.args.self.now) c.args.lo c.args.len (mode_of c.args.mode) c.args.bytes.now) in
     rw (p.1, p.2) (record {
       allowed = refusal-map (cells c.args.self.now) c.args.lo c.args.len (mode_of c.args.mode) c.args.bytes.now c.if-is_exec.ensures c.if-touches_code.ensures;
       map = refl;
@@ -36,8 +35,8 @@ returns-in_err-map c =
 pub returns : goal.returns
 returns c =
     let size : 4096 * c.from-size.result ≡ mapped_size (applied (cells c.args.self.now) (MapAt c.args.lo c.args.len (mode_of c.args.mode) c.args.bytes.now)) =
-        ap (λ (n : ℕ). 4096 * n) (c.from-size.ensures ∙ c.pages_with.ensures c.args.bytes.now (is_write_mode (mode_of c.args.mode)) (is_exec_mode (mode_of c.args.mode)))
-        ∙ ap mapped_size (applied-map (cells c.args.self.now) c.args.lo c.args.len (mode_of c.args.mode) c.args.bytes.now) in
+    ap (λ (n : ℕ). 4096 * n) (c.from-size.ensures ∙ c.pages_with.ensures c.args.bytes.now (is_write_mode (mode_of c.args.mode)) (is_exec_mode (mode_of c.args.mode)))
+    ∙ ap mapped_size (applied-map (cells c.args.self.now) c.args.lo c.args.len (mode_of c.args.mode) c.args.bytes.now) in
     record {
       allowed = refusal-map (cells c.args.self.now) c.args.lo c.args.len (mode_of c.args.mode) c.args.bytes.now c.if-is_exec.ensures c.if-touches_code.ensures;
       limit = λ _. omega (arith, size);

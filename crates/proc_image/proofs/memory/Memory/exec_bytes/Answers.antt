@@ -1,6 +1,6 @@
-use Rattle.std.proofs.Common.{◌≡◌, ℕ, ◌%◌, ◌/◌, ◌++◌, List, length, drop, ap, ◌∙◌}
+use Rattle.std.proofs.Common.{◌≡◌, ℕ, ◌%◌, ◌++◌, List, length, drop, ap, ◌∙◌}
 use Rattle.mv_base.specs.Memory.{exec_byte, exec_bytes}
-use Rattle.proc_image.specs.Paged.{Page, cells, page_of, exec_byte_in}
+use Rattle.proc_image.specs.Paged.{Page, cells, exec_byte_in}
 use Rattle.proc_image.proofs.Executing.{exec-page}
 use Rattle.proc_image.proofs.memory.Memory.exec_bytes.Goals as goal
 

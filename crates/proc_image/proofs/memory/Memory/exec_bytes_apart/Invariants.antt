@@ -8,5 +8,5 @@ invariant-loop-i l = record {
   long : length l.to ≡ 15;
   next_is : l.next ≡ l.at + l.i;
   copied : exec_bytes (exec_byte (cells l.self)) l.at 15 ≡ take l.i l.to ++ exec_bytes (exec_byte (cells l.self)) (l.at + l.i) (15 - l.i);
-  rest : drop l.i l.to ≡ drop l.i l.initial.to
+  rest : drop l.i l.to ≡ drop l.i l.initial.to;
 }

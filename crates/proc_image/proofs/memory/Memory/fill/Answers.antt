@@ -1,4 +1,4 @@
-use Rattle.std.proofs.Common.{◌≡◌, ◌+◌, ◌∷◌, Bool, ap, sym, ◌∙◌, refl, Some, slice_index}
+use Rattle.std.proofs.Common.{◌≡◌, ◌+◌, ap, ◌∙◌, refl, Some, slice_index}
 use Rattle.mv_base.specs.Memory.{Cell, Memory}
 use Rattle.proc_image.specs.Paged.{cells, with_cell}
 use Rattle.proc_image.proofs.Fills.{filled-none, filled-more}

@@ -1,4 +1,4 @@
-use Rattle.std.proofs.Common.{◌+◌, ◌/◌, refl, sym, ◌∙◌, add-one}
+use Rattle.std.proofs.Common.{◌+◌, refl, sym, add-one}
 use Rattle.mv_base.specs.Memory.{is_executable}
 use Rattle.proc_image.specs.Paged.{cells}
 use Rattle.proc_image.proofs.Counts.{some-zero, some-more, some-here}

@@ -1,5 +1,5 @@
-use Rattle.std.proofs.Common.{ap, sym, ◌∙◌, ◌≡◌, ◌+◌, ◌*◌, ◌≤◌, suc, refl, arith}
-use Rattle.proc_image.specs.Counting.{mapped_pages, mapped_pages_in, holds_mapped, count_below}
+use Rattle.std.proofs.Common.{ap, sym, ◌∙◌, ◌≡◌, ◌*◌, arith}
+use Rattle.proc_image.specs.Counting.{mapped_pages, holds_mapped, count_below}
 use Rattle.proc_image.specs.Paged.{cells}
 use Rattle.proc_image.proofs.Counts.{count-zero, pages-more, pages-absent, pages-le}
 use Rattle.proc_image.proofs.memory.Memory.mapped_pages.Goals as goal
@@ -16,10 +16,10 @@ loop-table-preserved c =
     let more = pages-more (cells c.args.self.now) c.loop-table.table in
     let le = pages-le (cells c.args.self.now) (1024 * c.loop-table.table) 1024 in
     elim c.if-not-is_table_absent.branch [
-      then-not-is_table_absent w ↦ record { counted = omega arith; most = omega arith }
-    | else-not-is_table_absent w ↦
-        let none = pages-absent c.args.self.now c.loop-table.table (c.is_table_absent.ensures w.if-not-is_table_absent.false) in
-        record { counted = omega arith; most = omega arith }
+      | then-not-is_table_absent w ↦ record { counted = omega arith; most = omega arith }
+      | else-not-is_table_absent w ↦
+          let none = pages-absent c.args.self.now c.loop-table.table (c.is_table_absent.ensures w.if-not-is_table_absent.false) in
+          record { counted = omega arith; most = omega arith }
     ]
 
 pub returns : goal.returns

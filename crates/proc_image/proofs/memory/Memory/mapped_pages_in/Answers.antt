@@ -1,4 +1,4 @@
-use Rattle.std.proofs.Common.{ap, sym, ◌∙◌, ◌≡◌, ◌+◌, ◌≤◌, ℕ, Bool, true, false, suc, arith, add-one}
+use Rattle.std.proofs.Common.{sym, ◌∙◌, ◌≡◌, ◌+◌, ℕ, Bool, true, false, arith, add-one}
 use Rattle.proc_image.specs.Counting.{mapped_pages_in, holds_mapped, count_below}
 use Rattle.proc_image.specs.Paged.{cells}
 use Rattle.proc_image.proofs.Counts.{count-zero, count-next, count-skip}
@@ -20,12 +20,12 @@ pub loop-page-preserved : goal.loop-page-preserved
 unfolding mapped_pages_in
 loop-page-preserved c =
     elim c.if-holds_mapped.branch [
-      then-holds_mapped w ↦ record {
+      | then-holds_mapped w ↦ record {
         counted = counted (λ j. holds_mapped (cells c.args.self.now) (c.args.first + j)) c.loop-page.page c.loop-page.pages c.if-holds_mapped.pages
             c.loop-page.invariant.counted (sym c.holds_mapped.ensures ∙ w.if-holds_mapped.true) w.pages-is;
         most = omega arith;
       }
-    | else-holds_mapped w ↦ record {
+      | else-holds_mapped w ↦ record {
         counted = skipped (λ j. holds_mapped (cells c.args.self.now) (c.args.first + j)) c.loop-page.page c.loop-page.pages c.if-holds_mapped.pages
             c.loop-page.invariant.counted (sym c.holds_mapped.ensures ∙ w.if-holds_mapped.false) w.pages-is;
         most = omega arith;

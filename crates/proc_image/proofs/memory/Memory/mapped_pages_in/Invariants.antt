@@ -6,5 +6,5 @@ use Rattle.proc_image.proofs.memory.Memory.mapped_pages_in.Given as goal
 abbrev pub invariant-loop-page : goal.invariant-loop-page
 invariant-loop-page l = record {
   counted : l.pages ≡ mapped_pages_in (cells l.self) l.first l.page;
-  most : l.pages ≤ l.page
+  most : l.pages ≤ l.page;
 }

@@ -1,6 +1,4 @@
-use Rattle.std.proofs.Common.{◌≡◌, ◌+◌, ◌-◌, ◌/◌, refl, arith}
-use Rattle.proc_image.specs.Counting.{mapped_pages, mapped_pages_in}
-use Rattle.proc_image.specs.Mapping.{filled}
+use Rattle.std.proofs.Common.{◌+◌, ◌-◌, ◌/◌, refl, arith}
 use Rattle.proc_image.specs.Paged.{cells}
 use Rattle.proc_image.proofs.Counts.{pages-le, all-pages-le}
 use Rattle.proc_image.proofs.Fresh.{mapped_pages-filled}
@@ -18,5 +16,5 @@ pub returns : goal.returns
 returns c bytes write exec =
     let le = pages-le (cells c.args.self.now) (c.args.lo / 4096) ((c.args.lo + c.args.len + 4095) / 4096 - c.args.lo / 4096) in
     let all = mapped_pages-filled (cells c.args.self.now) c.args.lo c.args.len bytes write exec (c.args.lo / 4096) ((c.args.lo + c.args.len + 4095) / 4096 - c.args.lo / 4096)
-            c.requires.some c.requires.low refl (omega arith) in
+    c.requires.some c.requires.low refl (omega arith) in
     omega arith

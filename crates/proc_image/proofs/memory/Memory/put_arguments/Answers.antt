@@ -1,6 +1,6 @@
-use Rattle.std.proofs.Common.{◌≡◌, ℕ, ◌+◌, List, [], ◌∷◌, length, drop, ap, sym, ◌∙◌, arith}
+use Rattle.std.proofs.Common.{◌≡◌, ℕ, ◌+◌, List, [], ◌∷◌, drop, ap, sym, ◌∙◌, arith}
 use Rattle.std.proofs.lemmas.List.{drop_all}
-use Rattle.mv_base.specs.Memory.{Memory, put}
+use Rattle.mv_base.specs.Memory.{put}
 use Rattle.proc_image.specs.Paged.{cells}
 use Rattle.proc_image.specs.Stack.{argument_bytes}
 use Rattle.proc_image.proofs.Effecting.{put-none}

@@ -1,4 +1,4 @@
-use Rattle.std.proofs.Common.{ap, sym, ◌∙◌, ◌+◌, ◌∷◌, [], slice_index, take, arith}
+use Rattle.std.proofs.Common.{ap, ◌∙◌, ◌+◌, ◌∷◌, [], slice_index}
 use Rattle.mv_base.specs.Memory.{Memory, put}
 use Rattle.proc_image.specs.Paged.{cells}
 use Rattle.proc_image.proofs.Effecting.{put-none, put-more}

@@ -1,5 +1,4 @@
 use Rattle.std.proofs.Common.{◌≡◌, ◌∙◌, ◌%◌, ◌/◌, ◌∷◌, [], ap, sym, arith}
-use Rattle.byteorder.specs.Endian.{little_bytes}
 use Rattle.mv_base.specs.Memory.{put, address_after}
 use Rattle.proc_image.specs.Paged.{cells}
 use Rattle.proc_image.specs.Laws.{put-append}

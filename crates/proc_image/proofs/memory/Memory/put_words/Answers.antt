@@ -1,9 +1,9 @@
-use Rattle.std.proofs.Common.{◌≡◌, ℕ, ◌+◌, ◌*◌, List, [], ◌∷◌, length, drop, refl, ap, sym, ◌∙◌, arith}
+use Rattle.std.proofs.Common.{◌≡◌, ℕ, ◌+◌, List, [], ◌∷◌, length, drop, refl, ap, sym, ◌∙◌, arith}
 use Rattle.std.proofs.lemmas.List.{drop_all, length-drop}
 use Rattle.mv_base.specs.Bytes.{words}
-use Rattle.mv_base.specs.Memory.{Memory, put}
+use Rattle.mv_base.specs.Memory.{put}
 use Rattle.proc_image.specs.Paged.{cells}
-use Rattle.proc_image.specs.Stack.{argument_bytes, pointers}
+use Rattle.proc_image.specs.Stack.{pointers}
 use Rattle.proc_image.proofs.Effecting.{put-none}
 use Rattle.proc_image.proofs.Stacking.{drop-argument, length-argument, length-pointers, put-word, words-nil}
 use Rattle.proc_image.proofs.memory.Memory.put_words.Goals as goal
@@ -34,8 +34,8 @@ returns c =
     let none : drop c.loop-arg.arg-index c.args.args.now ≡ [] = drop_all c.loop-arg.arg-index c.args.args.now c.loop-arg-test.false in
     let long = length-pointers c.args.start c.args.args.now in
     let all =
-        put-word (put (cells c.args.self.now) c.args.pointer (words (length c.args.args.now ∷ pointers c.args.start c.args.args.now))) (cells c.args.self.now) (cells c.put_dword.new.self)
-        c.args.pointer (length c.args.args.now) (pointers c.args.start c.args.args.now) (omega arith) (omega arith) refl c.put_dword.ensures in
+    put-word (put (cells c.args.self.now) c.args.pointer (words (length c.args.args.now ∷ pointers c.args.start c.args.args.now))) (cells c.args.self.now) (cells c.put_dword.new.self)
+    c.args.pointer (length c.args.args.now) (pointers c.args.start c.args.args.now) (omega arith) (omega arith) refl c.put_dword.ensures in
     put-none (cells c.loop-arg.self) c.loop-arg.place
     ∙ sym (all ∙ c.loop-arg.invariant.left
     ∙ ap (λ (xs : List (List ℕ)). put (cells c.loop-arg.self) c.loop-arg.place (words (pointers c.loop-arg.at xs))) none

@@ -9,5 +9,5 @@ abbrev pub invariant-loop-arg : goal.invariant-loop-arg
 invariant-loop-arg l = record {
   place_is : l.place ≡ l.pointer + 4 * (l.arg-index + 1);
   end : l.at + length (argument_bytes (drop l.arg-index l.args)) ≡ 0xBFFFF000;
-  left : put (cells l.initial.self) (l.pointer + 4) (words (pointers l.start l.args)) ≡ put (cells l.self) l.place (words (pointers l.at (drop l.arg-index l.args)))
+  left : put (cells l.initial.self) (l.pointer + 4) (words (pointers l.start l.args)) ≡ put (cells l.self) l.place (words (pointers l.at (drop l.arg-index l.args)));
 }

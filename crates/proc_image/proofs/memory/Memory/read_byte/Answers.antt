@@ -1,6 +1,5 @@
 use Rattle.std.proofs.lemmas.Result.{err_from_is_err_and}
 use Rattle.proc_image.specs.Paged.{cells}
-use Rattle.proc_image.specs.Access.{IsValueAt}
 use Rattle.proc_image.proofs.Reading.{IsValueAt-byte, fault-first}
 use Rattle.proc_image.proofs.memory.Memory.read_byte.Goals as goal
 

@@ -1,5 +1,5 @@
-use Rattle.std.proofs.Common.{ap, sym, ◌∙◌, is_some, Option}
-use Rattle.mv_base.specs.Memory.{Cell, is_mapped, read_fault}
+use Rattle.std.proofs.Common.{ap, sym, ◌∙◌, is_some}
+use Rattle.mv_base.specs.Memory.{is_mapped, read_fault}
 use Rattle.proc_image.specs.Paged.{cells}
 use Rattle.proc_image.proofs.Walking.{walk-start, walk-here, walk-next, walk-end}
 use Rattle.proc_image.proofs.memory.Memory.read_fault.Goals as goal

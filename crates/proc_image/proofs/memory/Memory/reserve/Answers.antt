@@ -1,5 +1,5 @@
-use Rattle.std.proofs.Common.{ℕ, ◌≡◌, ◌<◌, ◌≤◌, ◌/◌, ◌%◌, [], List, length, get_or, set, ap, ◌∙◌, arith}
-use Rattle.proc_image.specs.Paged.{Page, IsLonger, cells, cell_in, page_of, page_in}
+use Rattle.std.proofs.Common.{ℕ, ◌<◌, ◌/◌, [], List, length, get_or, set, ap, ◌∙◌, arith}
+use Rattle.proc_image.specs.Paged.{Page, IsLonger, cells, page_of, page_in}
 use Rattle.proc_image.proofs.Pages.{at_any, page_in-same, page_in-reserved, page_in-set, cell_in-longer}
 use Rattle.proc_image.proofs.memory.Memory.reserve.Goals as goal
 

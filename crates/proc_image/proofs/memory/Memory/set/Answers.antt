@@ -1,4 +1,4 @@
-use Rattle.std.proofs.Common.{◌≡◌, ℕ, ◌/◌, ◌%◌, ◌<◌, arith, [], List, length, set, get_or, ap, ◌∙◌}
+use Rattle.std.proofs.Common.{◌≡◌, ◌/◌, ◌%◌, ◌<◌, arith, [], List, length, set, get_or, ap, ◌∙◌}
 use Rattle.proc_image.proofs.Pages.{row_of, table_of_row, cell_in-with_cell, room-with_cell}
 use Rattle.proc_image.specs.Paged.{Page, cells, cell_in, page_of, page_in}
 use Rattle.proc_image.proofs.memory.Memory.set.Goals as goal
@@ -10,7 +10,7 @@ pub set-requires : goal.set-requires
 unfolding page_of page_in
 set-requires c =
     let before : c.index_mut.result.now ≡ get_or c.args.self.now.directory.items (c.args.at / 4096 / 1024) [] =
-        table_of_row c.args.self.now c.args.at c.index_mut.result.now c.requires.room c.index_mut.ensures.value in
+    table_of_row c.args.self.now c.args.at c.index_mut.result.now c.requires.room c.index_mut.ensures.value in
     rw before c.requires.room
 
 -- the table after the call
@@ -18,7 +18,7 @@ table : (c : goal.After-self-1) → c.set.new.self ≡ set (get_or c.args.self.n
 unfolding page_in
 table c =
     c.set.ensures
-    ∙ ap (λ (r : List Page). set r (c.args.at / 4096 % 1024) (set (get_or r (c.args.at / 4096 % 1024) []) (c.args.at % 4096) c.args.cell)) 
+    ∙ ap (λ (r : List Page). set r (c.args.at / 4096 % 1024) (set (get_or r (c.args.at / 4096 % 1024) []) (c.args.at % 4096) c.args.cell))
     (table_of_row c.args.self.now c.args.at c.index_mut.result.now c.requires.room c.index_mut.ensures.value)
 
 pub returns-clause-here : goal.returns-clause-here

@@ -5,7 +5,7 @@ use Rattle.proc_image.specs.Mapping.{filled}
 use Rattle.proc_image.specs.Paged.{cells}
 use Rattle.proc_image.specs.Stack.{argument_bytes, arguments_at, pointers, stack_pointer}
 use Rattle.proc_image.proofs.Pages.{cells-high}
-use Rattle.proc_image.proofs.Stacking.{length-arguments, stack-stands}
+use Rattle.proc_image.proofs.Stacking.{length-arguments, stack-stands, with_stack-joined}
 use Rattle.proc_image.proofs.memory.Memory.start_stack.Goals as goal
 
 pub arguments_len-start-requires : goal.arguments_len-start-requires
@@ -56,7 +56,7 @@ returns c =
     let start : 0xBFFFF000 - c.arguments_len-start.result ≡ arguments_at args = omega arith in
     let number : length c.as_slice-args.result.now ≡ length args = ap (λ (xs : List (List ℕ)). length xs) c.as_slice-args.ensures in
     let pointer : (0xBFFFF000 - c.arguments_len-start.result - 4 * (length c.as_slice-args.result.now + 5)) / 16 * 16 ≡ stack_pointer args =
-        ap₂ (λ s n. (s - 4 * (n + 5)) / 16 * 16) start number in
+    ap₂ (λ s n. (s - 4 * (n + 5)) / 16 * 16) start number in
     record {
       free = sym c.if-is_stack_taken.ensures;
       pointer = pointer;
@@ -66,5 +66,6 @@ returns c =
           (c.put_arguments.ensures ∙ ap₂ (λ (m : Memory) (s : ℕ). put m s (argument_bytes c.as_slice-args.result.now)) c.in_ok-map.ensures.ok start) pointer
           ∙ ap₂ (λ (xs : List (List ℕ)) (s : ℕ). put (put (filled (cells c.args.self.now) 0xBFEFF000 0x100000 [] true false) (arguments_at args) (argument_bytes xs)) (stack_pointer args) (words (length xs ∷ pointers s xs)))
           c.as_slice-args.ensures start
-          ∙ stack-stands (cells c.args.self.now) args (λ y beyond. cells-high c.args.self.now y (omega arith)) c.args.log.now.bounds.arguments.few (omega arith);
+          ∙ stack-stands (cells c.args.self.now) args (λ y beyond. cells-high c.args.self.now y (omega arith)) c.args.log.now.bounds.arguments.few (omega arith)
+          ∙ with_stack-joined (cells c.args.self.now) args (sym c.if-is_stack_taken.ensures);
     }

@@ -1,4 +1,4 @@
-use Rattle.std.proofs.Common.{◌≡◌, true, false, ◌+◌, ◌-◌, refl, sym, ap, ◌∙◌, arith}
+use Rattle.std.proofs.Common.{◌≡◌, true, false, ◌+◌, ◌-◌, sym, ap, ◌∙◌, arith}
 use Rattle.mv_base.specs.Memory.{is_executable}
 use Rattle.proc_image.specs.Counting.{some_below}
 use Rattle.proc_image.specs.Paged.{cells}

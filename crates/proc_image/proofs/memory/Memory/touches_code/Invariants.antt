@@ -8,7 +8,7 @@ abbrev pub invariant-loop-at : goal.invariant-loop-at
 invariant-loop-at l = record {
   from : l.lo ≤ l.at;
   to : l.at ≤ l.end;
-  none : some_below (λ j. is_executable (cells l.self) (l.lo + j)) (l.at - l.lo) ≡ false
+  none : some_below (λ j. is_executable (cells l.self) (l.lo + j)) (l.at - l.lo) ≡ false;
 }
 
 abbrev pub decreases-loop-at : goal.decreases-loop-at

@@ -7,5 +7,5 @@ abbrev pub invariant-loop-i : goal.invariant-loop-i
 invariant-loop-i l = record {
   long : length l.to ≡ 15;
   copied : exec_bytes (exec_byte_in l.self) l.place 15 ≡ take l.i l.to ++ exec_bytes (exec_byte_in l.self) (l.place + l.i) (15 - l.i);
-  rest : drop l.i l.to ≡ drop l.i l.initial.to
+  rest : drop l.i l.to ≡ drop l.i l.initial.to;
 }

@@ -1,4 +1,4 @@
-use Rattle.std.proofs.Common.{◌≡◌, true, false, is_some, [], ap, sym, ◌∙◌, refl, add-one, arith}
+use Rattle.std.proofs.Common.{◌≡◌, is_some, [], ap, sym, ◌∙◌, refl, add-one}
 use Rattle.proc_image.specs.Counting.{some_below}
 use Rattle.proc_image.specs.Paged.{is_mapped_in}
 use Rattle.proc_image.proofs.Counts.{some-zero, some-more, some-here, some-none}
