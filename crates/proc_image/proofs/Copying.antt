@@ -8,14 +8,8 @@ use Rattle.std.specs.Option.{option_map}
 use Rattle.std.proofs.lemmas.List.{append-nil, take_all}
 use Rattle.mv_base.specs.Memory.{Memory, address_after, distance, with_byte, byte_of, bytes_at, put}
 use Rattle.proc_image.specs.Laws.{put-append}
-
-bytes_at-next : (m : Memory) (a n : ℕ) → bytes_at m a (suc n) ≡ byte_of (m a) ∷ bytes_at m (address_after a 1) n
-unfolding bytes_at
-bytes_at-next m a n = refl
-
-bytes_at-none : (m : Memory) (a : ℕ) → bytes_at m a 0 ≡ []
-unfolding bytes_at
-bytes_at-none m a = refl
+use Rattle.proc_image.proofs.Effecting.{put-none}
+use Rattle.proc_image.proofs.Reading.{bytes_at-next, bytes_at-none}
 
 -- one more byte is read
 pub read-more : (m : Memory) (all to : List ℕ) (next i b n : ℕ) → i < n → length to ≡ n → byte_of (m next) ≡ b
@@ -36,15 +30,6 @@ read-all m all to next i n past long copied =
     let none : n - i ≡ 0 = omega arith in
     sym (copied ∙ ap (λ k. take i to ++ bytes_at m next k) none ∙ ap (λ xs. take i to ++ xs) (bytes_at-none m next) ∙ append-nil (take i to) ∙ take_all i to (omega (arith, past, long)))
 
--- nothing written is no change
-put-nothing : (m : Memory) (a : ℕ) → put m a [] ≡ m
-unfolding put
-put-nothing m a = fun_ext (λ x. go x (nat_lt (distance a x) 0) refl)
-  where
-    go : (x : ℕ) (t : Bool) → nat_lt (distance a x) 0 ≡ t → (if t then option_map (with_byte (slice_index [] (distance a x))) (m x) else m x) ≡ m x
-    go x true e = let below : distance a x < 0 = grind (arith, nat_tests) in absurd (omega arith)
-    go x false e = refl
-
 -- one more byte is written
 pub put-more : (all m : Memory) (bytes : List ℕ) (a k : ℕ) → a < 2 ^ 32 → length bytes < 2 ^ 32 → k < length bytes → all ≡ put m a (drop k bytes)
     → all ≡ put (put m a (slice_index bytes k ∷ [])) (address_after a 1) (drop (k + 1) bytes)
@@ -54,4 +39,4 @@ put-more all m bytes a k low short below left =
 
 -- all of them are
 pub put-all : (all m : Memory) (bytes : List ℕ) (a k : ℕ) → length bytes ≤ k → all ≡ put m a (drop k bytes) → m ≡ all
-put-all all m bytes a k past left = sym (left ∙ ap (put m a) (drop_of_length-le bytes past) ∙ put-nothing m a)
+put-all all m bytes a k past left = sym (left ∙ ap (put m a) (drop_of_length-le bytes past) ∙ sym (put-none m a))

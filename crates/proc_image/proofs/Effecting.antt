@@ -103,15 +103,6 @@ put-none m lo = fun_ext (λ a. go a (nat_lt (distance lo a) 0) refl)
     go a true e = let below : distance lo a < 0 = grind (arith, nat_tests) in absurd (omega arith)
     go a false e = refl
 
-pub put-more : (m : Memory) (lo i : ℕ) (bytes : List ℕ) → i < length bytes → lo + length bytes ≤ 0xFFFFF000
-    → put (put m lo (take i bytes)) (lo + i) (slice_index bytes i ∷ []) ≡ put m lo (take (i + 1) bytes)
-put-more m lo i bytes below low =
-    let short : length (take i bytes) ≡ i = length-take-le i bytes (omega arith) in
-    let at : address_after lo (length (take i bytes)) ≡ lo + i = omega arith in
-    ap (λ a. put (put m lo (take i bytes)) a (slice_index bytes i ∷ [])) (sym at)
-    ∙ sym (put-append m lo (take i bytes) (slice_index bytes i ∷ []) (omega arith) (omega arith))
-    ∙ ap (put m lo) (sym (rw add-one (take-suc bytes i 0 below)))
-
 -- ---- executable cells
 
 some-front : (test : ℕ → Bool) (n : ℕ) → some_below test (suc n) ≡ (test 0 || some_below (λ j. test (suc j)) n)

@@ -19,11 +19,11 @@ unfolding first_failing
 first_failing-none test a = refl
 
 -- a byte in front of others
-bytes_at-next : (m : Memory) (a n : ℕ) → bytes_at m a (suc n) ≡ byte_of (m a) ∷ bytes_at m (address_after a 1) n
+pub bytes_at-next : (m : Memory) (a n : ℕ) → bytes_at m a (suc n) ≡ byte_of (m a) ∷ bytes_at m (address_after a 1) n
 unfolding bytes_at
 bytes_at-next m a n = refl
 
-bytes_at-none : (m : Memory) (a : ℕ) → bytes_at m a 0 ≡ []
+pub bytes_at-none : (m : Memory) (a : ℕ) → bytes_at m a 0 ≡ []
 unfolding bytes_at
 bytes_at-none m a = refl
 

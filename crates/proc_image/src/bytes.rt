@@ -1,6 +1,7 @@
 //! Accesses of any length. Addresses go up modulo 2^32.
 
 ghost use Rattle.std.specs.Prelude.{◌≡◌, ◌<◌, ◌^◌, length};
+ghost use Rattle.mv_base.specs.Memory.{put};
 ghost use Rattle.proc_image.specs.Access.{IsCopied, IsWritten};
 ghost use Rattle.proc_image.specs.Paged.{cells};
 
@@ -38,11 +39,19 @@ impl Memory {
         if let Some(fault) = self.write_fault(at, bytes.len() as u32) {
             return Err(fault);
         }
+        self.put_bytes(at, bytes);
+        Ok(())
+    }
+
+    /// Puts bytes into the cells from `at` on, where they are mapped. Marks stay.
+    pub(crate) fn put_bytes(&mut self, at: u32, bytes: &[u8])
+        requires { length bytes.now < 2 ^ 32 }
+        ensures { cells self.new ≡ put (cells self.old) at bytes.now }
+    {
         let mut next = at;
         for byte in bytes {
             self.put_byte(next, *byte);
             next = next.wrapping_add(1);
         }
-        Ok(())
     }
 }

@@ -56,16 +56,6 @@ impl Memory {
         }
     }
 
-    /// Puts bytes into the cells from `lo` on, where they are mapped. Marks stay.
-    pub(crate) fn put_bytes(&mut self, lo: u32, bytes: &[u8])
-        requires { lo + length bytes.now ≤ 0xFFFFF000 }
-        ensures { cells self.new ≡ put (cells self.old) lo bytes.now }
-    {
-        for (place, byte) in bytes.iter().enumerate() {
-            self.put_byte(lo + place as u32, *byte);
-        }
-    }
-
     /// Takes away `len` mapped cells from `lo` on.
     pub(crate) fn unmap(&mut self, lo: u32, len: u32)
         requires low { lo + len ≤ 0xFFFFF000 }

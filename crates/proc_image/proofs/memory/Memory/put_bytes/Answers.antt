@@ -1,14 +1,14 @@
-use Rattle.std.proofs.Common.{ap, ◌∙◌, ◌+◌, ◌∷◌, [], slice_index}
-use Rattle.mv_base.specs.Memory.{Memory, put}
+use Rattle.std.proofs.Common.{◌≡◌, ◌∙◌, ap, sym, arith, slice_index, ◌∷◌, [], drop, ◌+◌}
+use Rattle.mv_base.specs.Memory.{put, address_after}
 use Rattle.proc_image.specs.Paged.{cells}
-use Rattle.proc_image.proofs.Effecting.{put-none, put-more}
+use Rattle.proc_image.proofs.Copying.{put-more, put-all}
 use Rattle.proc_image.proofs.memory.Memory.put_bytes.Goals as goal
 
-pub loop-place-init : goal.loop-place-init
-loop-place-init c = put-none (cells c.args.self.now) c.args.lo
+pub loop-byte-preserved : goal.loop-byte-preserved
+loop-byte-preserved c =
+    let k = c.loop-byte.byte-index in
+    put-more _ (cells c.loop-byte.self) c.args.bytes.now c.loop-byte.next k (omega arith) (omega (arith, c.requires)) c.loop-byte-test.true c.loop-byte.invariant
+    ∙ ap (λ m. put m (address_after c.loop-byte.next 1) (drop (k + 1) c.args.bytes.now)) (sym c.put_byte.ensures)
 
-pub loop-place-preserved : goal.loop-place-preserved
-loop-place-preserved c =
-    c.put_byte.ensures
-    ∙ ap (λ (m : Memory). put m (c.args.lo + c.loop-place.place) (slice_index c.args.bytes.now c.loop-place.place ∷ [])) c.loop-place.invariant
-    ∙ put-more (cells c.args.self.now) c.args.lo c.loop-place.place c.args.bytes.now c.loop-place-test.true c.requires
+pub returns : goal.returns
+returns c = put-all _ (cells c.loop-byte.self) c.args.bytes.now c.loop-byte.next c.loop-byte.byte-index (omega (arith, c.loop-byte-test.false)) c.loop-byte.invariant
