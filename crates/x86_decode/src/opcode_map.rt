@@ -329,105 +329,105 @@ const UD2: Option<Form> = Some(plain!(Kind::Ud2, Absent, Dword));
 // The one-byte opcodes that have one form, 00 to 3F.
 #[rattlefmt::skip]
 static ONE_BYTE_00: [Option<Form>; 64] = [
-    /* 00 */ rm_reg!(Add, Byte, true), rm_reg!(Add, Vary, true), reg_rm!(Add, Byte), reg_rm!(Add, Vary), acc!(Add, Ib, Byte), acc!(Add, Iz, Vary), NONE, NONE,
-    /* 08 */ rm_reg!(Or, Byte, true), rm_reg!(Or, Vary, true), reg_rm!(Or, Byte), reg_rm!(Or, Vary), acc!(Or, Ib, Byte), acc!(Or, Iz, Vary), NONE, NONE,
-    /* 10 */ rm_reg!(Adc, Byte, true), rm_reg!(Adc, Vary, true), reg_rm!(Adc, Byte), reg_rm!(Adc, Vary), acc!(Adc, Ib, Byte), acc!(Adc, Iz, Vary), NONE, NONE,
-    /* 18 */ rm_reg!(Sbb, Byte, true), rm_reg!(Sbb, Vary, true), reg_rm!(Sbb, Byte), reg_rm!(Sbb, Vary), acc!(Sbb, Ib, Byte), acc!(Sbb, Iz, Vary), NONE, NONE,
-    /* 20 */ rm_reg!(And, Byte, true), rm_reg!(And, Vary, true), reg_rm!(And, Byte), reg_rm!(And, Vary), acc!(And, Ib, Byte), acc!(And, Iz, Vary), NONE, NONE,
-    /* 28 */ rm_reg!(Sub, Byte, true), rm_reg!(Sub, Vary, true), reg_rm!(Sub, Byte), reg_rm!(Sub, Vary), acc!(Sub, Ib, Byte), acc!(Sub, Iz, Vary), NONE, NONE,
-    /* 30 */ rm_reg!(Xor, Byte, true), rm_reg!(Xor, Vary, true), reg_rm!(Xor, Byte), reg_rm!(Xor, Vary), acc!(Xor, Ib, Byte), acc!(Xor, Iz, Vary), NONE, NONE,
-    /* 38 */ rm_reg!(Cmp, Byte, false), rm_reg!(Cmp, Vary, false), reg_rm!(Cmp, Byte), reg_rm!(Cmp, Vary), acc!(Cmp, Ib, Byte), acc!(Cmp, Iz, Vary), NONE, NONE,
+    /* 0x00 */ rm_reg!(Add, Byte, true), rm_reg!(Add, Vary, true), reg_rm!(Add, Byte), reg_rm!(Add, Vary), acc!(Add, Ib, Byte), acc!(Add, Iz, Vary), NONE, NONE,
+    /* 0x08 */ rm_reg!(Or, Byte, true), rm_reg!(Or, Vary, true), reg_rm!(Or, Byte), reg_rm!(Or, Vary), acc!(Or, Ib, Byte), acc!(Or, Iz, Vary), NONE, NONE,
+    /* 0x10 */ rm_reg!(Adc, Byte, true), rm_reg!(Adc, Vary, true), reg_rm!(Adc, Byte), reg_rm!(Adc, Vary), acc!(Adc, Ib, Byte), acc!(Adc, Iz, Vary), NONE, NONE,
+    /* 0x18 */ rm_reg!(Sbb, Byte, true), rm_reg!(Sbb, Vary, true), reg_rm!(Sbb, Byte), reg_rm!(Sbb, Vary), acc!(Sbb, Ib, Byte), acc!(Sbb, Iz, Vary), NONE, NONE,
+    /* 0x20 */ rm_reg!(And, Byte, true), rm_reg!(And, Vary, true), reg_rm!(And, Byte), reg_rm!(And, Vary), acc!(And, Ib, Byte), acc!(And, Iz, Vary), NONE, NONE,
+    /* 0x28 */ rm_reg!(Sub, Byte, true), rm_reg!(Sub, Vary, true), reg_rm!(Sub, Byte), reg_rm!(Sub, Vary), acc!(Sub, Ib, Byte), acc!(Sub, Iz, Vary), NONE, NONE,
+    /* 0x30 */ rm_reg!(Xor, Byte, true), rm_reg!(Xor, Vary, true), reg_rm!(Xor, Byte), reg_rm!(Xor, Vary), acc!(Xor, Ib, Byte), acc!(Xor, Iz, Vary), NONE, NONE,
+    /* 0x38 */ rm_reg!(Cmp, Byte, false), rm_reg!(Cmp, Vary, false), reg_rm!(Cmp, Byte), reg_rm!(Cmp, Vary), acc!(Cmp, Ib, Byte), acc!(Cmp, Iz, Vary), NONE, NONE,
 ];
 
 // The one-byte opcodes that have one form, 40 to 7F.
 #[rattlefmt::skip]
 static ONE_BYTE_40: [Option<Form>; 64] = [
-    /* 40 */ INC, INC, INC, INC, INC, INC, INC, INC,
-    /* 48 */ DEC, DEC, DEC, DEC, DEC, DEC, DEC, DEC,
-    /* 50 */ PUSH, PUSH, PUSH, PUSH, PUSH, PUSH, PUSH, PUSH,
-    /* 58 */ POP, POP, POP, POP, POP, POP, POP, POP,
-    /* 60 */ PUSHAD, POPAD, NONE, NONE, NONE, NONE, NONE, NONE,
-    /* 68 */ PUSH_ID, IMUL_IZ, PUSH_IB, IMUL_IB, NONE, NONE, NONE, NONE,
-    /* 70 */ JCC, JCC, JCC, JCC, JCC, JCC, JCC, JCC,
-    /* 78 */ JCC, JCC, JCC, JCC, JCC, JCC, JCC, JCC,
+    /* 0x40 */ INC, INC, INC, INC, INC, INC, INC, INC,
+    /* 0x48 */ DEC, DEC, DEC, DEC, DEC, DEC, DEC, DEC,
+    /* 0x50 */ PUSH, PUSH, PUSH, PUSH, PUSH, PUSH, PUSH, PUSH,
+    /* 0x58 */ POP, POP, POP, POP, POP, POP, POP, POP,
+    /* 0x60 */ PUSHAD, POPAD, NONE, NONE, NONE, NONE, NONE, NONE,
+    /* 0x68 */ PUSH_ID, IMUL_IZ, PUSH_IB, IMUL_IB, NONE, NONE, NONE, NONE,
+    /* 0x70 */ JCC, JCC, JCC, JCC, JCC, JCC, JCC, JCC,
+    /* 0x78 */ JCC, JCC, JCC, JCC, JCC, JCC, JCC, JCC,
 ];
 
 // The one-byte opcodes that have one form, 80 to BF.
 #[rattlefmt::skip]
 static ONE_BYTE_80: [Option<Form>; 64] = [
-    /* 80 */ NONE, NONE, NONE, NONE, TEST_8, TEST, XCHG_8, XCHG,
-    /* 88 */ STORE_8, STORE, LOAD_8, LOAD, NONE, LEA, NONE, POP_RM,
-    /* 90 */ NONE, XCHG_ACC, XCHG_ACC, XCHG_ACC, XCHG_ACC, XCHG_ACC, XCHG_ACC, XCHG_ACC,
-    /* 98 */ CBW, CWD, NONE, NONE, PUSHFD, POPFD, SAHF, LAHF,
-    /* A0 */ LOAD_AL, LOAD_ACC, STORE_AL, STORE_ACC, string!(Movs, Byte, Rep), string!(Movs, Vary, Rep), string!(Cmps, Byte, Repe), string!(Cmps, Vary, Repe),
-    /* A8 */ TEST_AL, TEST_ACC, string!(Stos, Byte, Rep), string!(Stos, Vary, Rep), string!(Lods, Byte, Rep), string!(Lods, Vary, Rep), string!(Scas, Byte, Repe), string!(Scas, Vary, Repe),
-    /* B0 */ SET_8, SET_8, SET_8, SET_8, SET_8, SET_8, SET_8, SET_8,
-    /* B8 */ SET, SET, SET, SET, SET, SET, SET, SET,
+    /* 0x80 */ NONE, NONE, NONE, NONE, TEST_8, TEST, XCHG_8, XCHG,
+    /* 0x88 */ STORE_8, STORE, LOAD_8, LOAD, NONE, LEA, NONE, POP_RM,
+    /* 0x90 */ NONE, XCHG_ACC, XCHG_ACC, XCHG_ACC, XCHG_ACC, XCHG_ACC, XCHG_ACC, XCHG_ACC,
+    /* 0x98 */ CBW, CWD, NONE, NONE, PUSHFD, POPFD, SAHF, LAHF,
+    /* 0xA0 */ LOAD_AL, LOAD_ACC, STORE_AL, STORE_ACC, string!(Movs, Byte, Rep), string!(Movs, Vary, Rep), string!(Cmps, Byte, Repe), string!(Cmps, Vary, Repe),
+    /* 0xA8 */ TEST_AL, TEST_ACC, string!(Stos, Byte, Rep), string!(Stos, Vary, Rep), string!(Lods, Byte, Rep), string!(Lods, Vary, Rep), string!(Scas, Byte, Repe), string!(Scas, Vary, Repe),
+    /* 0xB0 */ SET_8, SET_8, SET_8, SET_8, SET_8, SET_8, SET_8, SET_8,
+    /* 0xB8 */ SET, SET, SET, SET, SET, SET, SET, SET,
 ];
 
 // The one-byte opcodes that have one form, C0 to FF.
 #[rattlefmt::skip]
 static ONE_BYTE_C0: [Option<Form>; 64] = [
-    /* C0 */ NONE, NONE, RET_IW, RET, NONE, NONE, MOV_C6, MOV_C7,
-    /* C8 */ NONE, LEAVE, NONE, NONE, INT3, NONE, NONE, NONE,
-    /* D0 */ NONE, NONE, NONE, NONE, NONE, NONE, NONE, XLAT,
-    /* D8 */ NONE, NONE, NONE, NONE, NONE, NONE, NONE, NONE,
-    /* E0 */ counted!(Ne), counted!(E), counted!(Plain), counted!(Ecxz), NONE, NONE, NONE, NONE,
-    /* E8 */ CALL, JMP_ID, NONE, JMP_IB, NONE, NONE, NONE, NONE,
-    /* F0 */ NONE, NONE, NONE, NONE, HLT, flag!(Cmc), NONE, NONE,
-    /* F8 */ flag!(Clc), flag!(Stc), NONE, NONE, flag!(Cld), flag!(Std), NONE, NONE,
+    /* 0xC0 */ NONE, NONE, RET_IW, RET, NONE, NONE, MOV_C6, MOV_C7,
+    /* 0xC8 */ NONE, LEAVE, NONE, NONE, INT3, NONE, NONE, NONE,
+    /* 0xD0 */ NONE, NONE, NONE, NONE, NONE, NONE, NONE, XLAT,
+    /* 0xD8 */ NONE, NONE, NONE, NONE, NONE, NONE, NONE, NONE,
+    /* 0xE0 */ counted!(Ne), counted!(E), counted!(Plain), counted!(Ecxz), NONE, NONE, NONE, NONE,
+    /* 0xE8 */ CALL, JMP_ID, NONE, JMP_IB, NONE, NONE, NONE, NONE,
+    /* 0xF0 */ NONE, NONE, NONE, NONE, HLT, flag!(Cmc), NONE, NONE,
+    /* 0xF8 */ flag!(Clc), flag!(Stc), NONE, NONE, flag!(Cld), flag!(Std), NONE, NONE,
 ];
 
 // The opcodes behind 0F that have one form, 00 to 3F.
 #[rattlefmt::skip]
 static TWO_BYTE_00: [Option<Form>; 64] = [
-    /* 00 */ NONE, NONE, NONE, NONE, NONE, NONE, NONE, NONE,
-    /* 08 */ NONE, NONE, NONE, UD2, NONE, NONE, NONE, NONE,
-    /* 10 */ NONE, NONE, NONE, NONE, NONE, NONE, NONE, NONE,
-    /* 18 */ NONE, NONE, NONE, NONE, NONE, NONE, NONE, NOP_RM,
-    /* 20 */ NONE, NONE, NONE, NONE, NONE, NONE, NONE, NONE,
-    /* 28 */ NONE, NONE, NONE, NONE, NONE, NONE, NONE, NONE,
-    /* 30 */ NONE, NONE, NONE, NONE, NONE, NONE, NONE, NONE,
-    /* 38 */ NONE, NONE, NONE, NONE, NONE, NONE, NONE, NONE,
+    /* 0x00 */ NONE, NONE, NONE, NONE, NONE, NONE, NONE, NONE,
+    /* 0x08 */ NONE, NONE, NONE, UD2, NONE, NONE, NONE, NONE,
+    /* 0x10 */ NONE, NONE, NONE, NONE, NONE, NONE, NONE, NONE,
+    /* 0x18 */ NONE, NONE, NONE, NONE, NONE, NONE, NONE, NOP_RM,
+    /* 0x20 */ NONE, NONE, NONE, NONE, NONE, NONE, NONE, NONE,
+    /* 0x28 */ NONE, NONE, NONE, NONE, NONE, NONE, NONE, NONE,
+    /* 0x30 */ NONE, NONE, NONE, NONE, NONE, NONE, NONE, NONE,
+    /* 0x38 */ NONE, NONE, NONE, NONE, NONE, NONE, NONE, NONE,
 ];
 
 // The opcodes behind 0F that have one form, 40 to 7F.
 #[rattlefmt::skip]
 static TWO_BYTE_40: [Option<Form>; 64] = [
-    /* 40 */ CMOV, CMOV, CMOV, CMOV, CMOV, CMOV, CMOV, CMOV,
-    /* 48 */ CMOV, CMOV, CMOV, CMOV, CMOV, CMOV, CMOV, CMOV,
-    /* 50 */ NONE, NONE, NONE, NONE, NONE, NONE, NONE, NONE,
-    /* 58 */ NONE, NONE, NONE, NONE, NONE, NONE, NONE, NONE,
-    /* 60 */ NONE, NONE, NONE, NONE, NONE, NONE, NONE, NONE,
-    /* 68 */ NONE, NONE, NONE, NONE, NONE, NONE, NONE, NONE,
-    /* 70 */ NONE, NONE, NONE, NONE, NONE, NONE, NONE, NONE,
-    /* 78 */ NONE, NONE, NONE, NONE, NONE, NONE, NONE, NONE,
+    /* 0x40 */ CMOV, CMOV, CMOV, CMOV, CMOV, CMOV, CMOV, CMOV,
+    /* 0x48 */ CMOV, CMOV, CMOV, CMOV, CMOV, CMOV, CMOV, CMOV,
+    /* 0x50 */ NONE, NONE, NONE, NONE, NONE, NONE, NONE, NONE,
+    /* 0x58 */ NONE, NONE, NONE, NONE, NONE, NONE, NONE, NONE,
+    /* 0x60 */ NONE, NONE, NONE, NONE, NONE, NONE, NONE, NONE,
+    /* 0x68 */ NONE, NONE, NONE, NONE, NONE, NONE, NONE, NONE,
+    /* 0x70 */ NONE, NONE, NONE, NONE, NONE, NONE, NONE, NONE,
+    /* 0x78 */ NONE, NONE, NONE, NONE, NONE, NONE, NONE, NONE,
 ];
 
 // The opcodes behind 0F that have one form, 80 to BF.
 #[rattlefmt::skip]
 static TWO_BYTE_80: [Option<Form>; 64] = [
-    /* 80 */ JCC_ID, JCC_ID, JCC_ID, JCC_ID, JCC_ID, JCC_ID, JCC_ID, JCC_ID,
-    /* 88 */ JCC_ID, JCC_ID, JCC_ID, JCC_ID, JCC_ID, JCC_ID, JCC_ID, JCC_ID,
-    /* 90 */ SETCC, SETCC, SETCC, SETCC, SETCC, SETCC, SETCC, SETCC,
-    /* 98 */ SETCC, SETCC, SETCC, SETCC, SETCC, SETCC, SETCC, SETCC,
-    /* A0 */ NONE, NONE, NONE, bit!(Bt), SHLD_IB, SHLD_CL, NONE, NONE,
-    /* A8 */ NONE, NONE, NONE, bit!(Bts), SHRD_IB, SHRD_CL, NONE, IMUL,
-    /* B0 */ CMPXCHG_8, CMPXCHG, NONE, bit!(Btr), NONE, NONE, MOVZX_8, MOVZX_16,
-    /* B8 */ NONE, NONE, NONE, bit!(Btc), BSF, BSR, MOVSX_8, MOVSX_16,
+    /* 0x80 */ JCC_ID, JCC_ID, JCC_ID, JCC_ID, JCC_ID, JCC_ID, JCC_ID, JCC_ID,
+    /* 0x88 */ JCC_ID, JCC_ID, JCC_ID, JCC_ID, JCC_ID, JCC_ID, JCC_ID, JCC_ID,
+    /* 0x90 */ SETCC, SETCC, SETCC, SETCC, SETCC, SETCC, SETCC, SETCC,
+    /* 0x98 */ SETCC, SETCC, SETCC, SETCC, SETCC, SETCC, SETCC, SETCC,
+    /* 0xA0 */ NONE, NONE, NONE, bit!(Bt), SHLD_IB, SHLD_CL, NONE, NONE,
+    /* 0xA8 */ NONE, NONE, NONE, bit!(Bts), SHRD_IB, SHRD_CL, NONE, IMUL,
+    /* 0xB0 */ CMPXCHG_8, CMPXCHG, NONE, bit!(Btr), NONE, NONE, MOVZX_8, MOVZX_16,
+    /* 0xB8 */ NONE, NONE, NONE, bit!(Btc), BSF, BSR, MOVSX_8, MOVSX_16,
 ];
 
 // The opcodes behind 0F that have one form, C0 to FF.
 #[rattlefmt::skip]
 static TWO_BYTE_C0: [Option<Form>; 64] = [
-    /* C0 */ XADD_8, XADD, NONE, NONE, NONE, NONE, NONE, NONE,
-    /* C8 */ BSWAP, BSWAP, BSWAP, BSWAP, BSWAP, BSWAP, BSWAP, BSWAP,
-    /* D0 */ NONE, NONE, NONE, NONE, NONE, NONE, NONE, NONE,
-    /* D8 */ NONE, NONE, NONE, NONE, NONE, NONE, NONE, NONE,
-    /* E0 */ NONE, NONE, NONE, NONE, NONE, NONE, NONE, NONE,
-    /* E8 */ NONE, NONE, NONE, NONE, NONE, NONE, NONE, NONE,
-    /* F0 */ NONE, NONE, NONE, NONE, NONE, NONE, NONE, NONE,
-    /* F8 */ NONE, NONE, NONE, NONE, NONE, NONE, NONE, NONE,
+    /* 0xC0 */ XADD_8, XADD, NONE, NONE, NONE, NONE, NONE, NONE,
+    /* 0xC8 */ BSWAP, BSWAP, BSWAP, BSWAP, BSWAP, BSWAP, BSWAP, BSWAP,
+    /* 0xD0 */ NONE, NONE, NONE, NONE, NONE, NONE, NONE, NONE,
+    /* 0xD8 */ NONE, NONE, NONE, NONE, NONE, NONE, NONE, NONE,
+    /* 0xE0 */ NONE, NONE, NONE, NONE, NONE, NONE, NONE, NONE,
+    /* 0xE8 */ NONE, NONE, NONE, NONE, NONE, NONE, NONE, NONE,
+    /* 0xF0 */ NONE, NONE, NONE, NONE, NONE, NONE, NONE, NONE,
+    /* 0xF8 */ NONE, NONE, NONE, NONE, NONE, NONE, NONE, NONE,
 ];
 
 /// The form at a one-byte opcode that has one.

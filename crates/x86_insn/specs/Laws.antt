@@ -1,5 +1,5 @@
 -- Laws of the spelling table: a byte list spells one instruction, no spelling is a proper front of another, and what
--- bytes decode to. They speak of no row.
+-- bytes decode to. They speak of no row but that of the near jump.
 use Rattle.std.specs.Prelude.{◌≡◌, ℕ, zero, suc, ◌+◌, ◌*◌, ◌/◌, ◌%◌, ◌^◌, ◌<◌, ◌≤◌, Bool, true, false, ◌&&◌, List, [], ◌∷◌, ◌++◌, length, take, Contains, slice_index_or, Option, Some, None, refl, nat_le, nat_lt}
 use Rattle.std.proofs.Common.{sym, ◌∙◌, ap, subst, inl, inr, arith, take-take, length-take-le, take_all, append_assoc, append-nil}
 use Rattle.std.proofs.lemmas.List.{length-append, length-take, nil_from_length}
