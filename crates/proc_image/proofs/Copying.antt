@@ -7,7 +7,7 @@ use Rattle.std.proofs.lemmas.Bool.Decides.{nat_tests}
 use Rattle.std.specs.Option.{option_map}
 use Rattle.std.proofs.lemmas.List.{append-nil, take_all}
 use Rattle.mv_base.specs.Memory.{Memory, address_after, distance, with_byte, byte_of, bytes_at, put}
-use Rattle.proc_image.specs.Writing.{put-append}
+use Rattle.proc_image.specs.Laws.{put-append}
 
 bytes_at-next : (m : Memory) (a n : ℕ) → bytes_at m a (suc n) ≡ byte_of (m a) ∷ bytes_at m (address_after a 1) n
 unfolding bytes_at

@@ -12,7 +12,7 @@ use Rattle.proc_image.specs.declared.memory.Memory.{Memory as Pages}
 use Rattle.proc_image.specs.Counting.{some_below}
 use Rattle.proc_image.specs.Mapping.{filled}
 use Rattle.proc_image.specs.Paged.{Page, page_of, cells, with_cell}
-use Rattle.proc_image.specs.Writing.{put-append}
+use Rattle.proc_image.specs.Laws.{put-append}
 use Rattle.proc_image.proofs.Counts.{some-zero, some-same, some-none}
 use Rattle.proc_image.proofs.Fills.{inside, is_above, within-more}
 use Rattle.proc_image.proofs.Pages.{cells-page}

@@ -1,8 +1,11 @@
 -- The executable bytes from an address on, byte by byte.
-use Rattle.std.proofs.Common.{◌≡◌, ℕ, zero, suc, ◌+◌, ◌-◌, ◌<◌, ◌≤◌, List, [], ◌∷◌, ◌++◌, length, take, drop, set, Option, Some, None, refl, sym, ap, ap₂, ◌∙◌, arith, add-one, append_assoc}
+use Rattle.std.proofs.Common.{◌≡◌, ℕ, zero, suc, ◌+◌, ◌-◌, ◌/◌, ◌%◌, ◌<◌, ◌≤◌, List, [], ◌∷◌, ◌++◌, length, take, drop, set, get_or, Option, Some, None, refl, sym, ap, ap₂, ◌∙◌, arith, add-one, append_assoc}
 use Rattle.std.proofs.Math.Seq.{take-suc-set}
 use Rattle.std.proofs.lemmas.List.{append-nil, drop-drop, drop-set-lt, take-append-drop, length-take-le}
-use Rattle.mv_base.specs.Memory.{with_rest, exec_bytes}
+use Rattle.mv_base.specs.Memory.{with_rest, exec_byte, exec_byte_of, exec_bytes}
+use Rattle.proc_image.specs.declared.memory.Memory.{Memory as Pages}
+use Rattle.proc_image.specs.Paged.{cells, page_of, exec_byte_in}
+use Rattle.proc_image.proofs.Pages.{cells-page}
 
 exec-next : (code : ℕ → Option ℕ) (a n b : ℕ) → Some b ≡ code a → exec_bytes code a (suc n) ≡ b ∷ exec_bytes code (a + 1) n
 unfolding exec_bytes
@@ -46,3 +49,21 @@ pub kept-more : (to old : List ℕ) (i b : ℕ) → drop i to ≡ drop i old →
 kept-more to old i b kept =
     let below : i < i + 1 = omega arith in
     drop-set-lt (i + 1) to i b below ∙ sym (drop-drop 1 i to) ∙ ap (drop 1) kept ∙ drop-drop 1 i old
+
+-- the same bytes at other places
+pub exec-same : (p q : ℕ → Option ℕ) (a b n : ℕ) → ((k : ℕ) → k < n → p (a + k) ≡ q (b + k)) → exec_bytes p a n ≡ exec_bytes q b n
+unfolding exec_bytes
+exec-same p q a b zero same = refl
+exec-same p q a b (suc n) same =
+    let here : p a ≡ q b = (let x : a ≡ a + 0 = omega arith in let y : b ≡ b + 0 = omega arith in ap p x ∙ same 0 (omega arith) ∙ ap q (sym y)) in
+    ap₂ with_rest here (exec-same p q (a + 1) (b + 1) n (λ k below.
+    let x : a + 1 + k ≡ a + suc k = omega arith in
+    let y : b + 1 + k ≡ b + suc k = omega arith in
+    ap p x ∙ same (suc k) (omega arith) ∙ ap q (sym y)))
+
+-- those of one page
+pub exec-page : (m : Pages) (at : ℕ) → at < 0xFFFFF000 → at % 4096 + 15 ≤ 4096 → exec_bytes (exec_byte_in (page_of m (at / 4096))) (at % 4096) 15 ≡ exec_bytes (exec_byte (cells m)) at 15
+exec-page m at low room = exec-same (exec_byte_in (page_of m (at / 4096))) (exec_byte (cells m)) (at % 4096) at 15 (λ k below.
+    let page : (at + k) / 4096 ≡ at / 4096 = omega arith in
+    let place : (at + k) % 4096 ≡ at % 4096 + k = omega arith in
+    ap exec_byte_of (sym (cells-page m (at + k) (omega arith) ∙ ap₂ (λ p i. get_or (page_of m p) i None) page place)))

@@ -8,4 +8,6 @@ pub mod Counts
 pub mod Fills
 pub mod Fresh
 pub mod Effecting
+pub mod Segmented
+pub mod Stacking
 pub mod Copying

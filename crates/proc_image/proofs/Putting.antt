@@ -9,7 +9,7 @@ use Rattle.byteorder.specs.Endian.{little_bytes}
 use Rattle.mv_base.specs.Memory.{Cell, Memory, address_after, distance, with_byte, put}
 use Rattle.proc_image.specs.declared.memory.Memory.{Memory as Pages}
 use Rattle.proc_image.specs.Paged.{page_of, cells, with_cell}
-use Rattle.proc_image.specs.Writing.{put-append}
+use Rattle.proc_image.specs.Laws.{put-append}
 use Rattle.proc_image.proofs.Pages.{cells-page, cells-high}
 
 -- a mapped address lies below the limit, and its page has its place

@@ -1,7 +1,9 @@
 -- the definitions that this crate's contracts, and those of the crates above, cite
 pub mod Paged
 pub mod Access
-pub mod Writing
 pub mod Counting
 pub mod Mapping
 pub mod Applying
+pub mod Loading
+pub mod Stack
+pub mod Laws

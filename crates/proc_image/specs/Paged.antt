@@ -1,6 +1,6 @@
 -- Memory as pages, and the cells that they have. This project's own; a directory of tables of pages is that of i386 (Intel SDM, volume 3, chapter 4).
 use Rattle.std.specs.Prelude.{◌≡◌, ℕ, ◌/◌, ◌%◌, ◌≤◌, ◌==◌, List, [], Bool, length, Option, None, is_some, nat_lt, slice_index_or, if◌then◌else◌}
-use Rattle.mv_base.specs.Memory.{Cell, Memory}
+use Rattle.mv_base.specs.Memory.{Cell, Memory, exec_byte_of}
 use Rattle.proc_image.specs.declared.memory.Memory.{Memory as Pages}
 
 -- the cells of a page, of which one that is not there has none
@@ -10,6 +10,10 @@ Page = List (Option Cell)
 -- a place of a page has a cell
 abbrev pub is_mapped_in : Page → ℕ → Bool
 is_mapped_in page k = is_some (slice_index_or page k None)
+
+-- what a place of a page has to execute
+abbrev pub exec_byte_in : Page → ℕ → Option ℕ
+exec_byte_in page k = exec_byte_of (slice_index_or page k None)
 
 -- the page with a number, in a directory of tables
 unfoldable pub page_in : List (List Page) → ℕ → Page

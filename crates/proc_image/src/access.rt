@@ -7,6 +7,7 @@ ghost use Rattle.proc_image.specs.Access.{IsByte, IsRead, IsWritten, byte_count}
 ghost use Rattle.proc_image.specs.Paged.{cells};
 
 use crate::memory::{LIMIT, Memory};
+use crate::page::PAGE_SIZE;
 use byteorder::{ByteOrder, LittleEndian};
 use x86_insn::Width;
 
@@ -141,7 +142,7 @@ impl Memory {
         self.put_byte(at.wrapping_add(1), (n / 0x100 % 0x100) as u8);
     }
 
-    fn put_dword(&mut self, at: u32, n: u32)
+    pub(crate) fn put_dword(&mut self, at: u32, n: u32)
         ensures { cells self.new ≡ put (cells self.old) at (little_bytes 4 n) }
     {
         self.put_word(at, n);
@@ -159,6 +160,21 @@ impl Memory {
 
     /// Copies the executable bytes from `at` on, at most 15, to the front of `to`, and gives their number.
     pub fn exec_bytes(&self, at: u32, to: &mut [u8; 15]) -> usize
+        ensures copied { to.new ≡ executable_bytes (exec_byte (cells self.now)) at 15 ++ drop (length (executable_bytes (exec_byte (cells self.now)) at 15)) to.old }
+        ensures number { result ≡ length (executable_bytes (exec_byte (cells self.now)) at 15) }
+    {
+        let place = (at % 4_096) as usize;
+        if at < LIMIT
+            && place + 15 <= PAGE_SIZE
+            && let Some(page) = self.page(at / 4_096)
+        {
+            return page.exec_bytes(place, to);
+        }
+        self.exec_bytes_apart(at, to)
+    }
+
+    /// The same, byte by byte, where they may stand in two pages.
+    fn exec_bytes_apart(&self, at: u32, to: &mut [u8; 15]) -> usize
         ensures copied { to.new ≡ executable_bytes (exec_byte (cells self.now)) at 15 ++ drop (length (executable_bytes (exec_byte (cells self.now)) at 15)) to.old }
         ensures number { result ≡ length (executable_bytes (exec_byte (cells self.now)) at 15) }
     {

@@ -41,7 +41,7 @@ impl Memory {
     }
 
     /// Whether a page holds a mapped byte.
-    fn holds_mapped(&self, page: u32) -> bool
+    pub(crate) fn holds_mapped(&self, page: u32) -> bool
         ensures { result ≡ holds_mapped (cells self.now) page }
     {
         if page >= LIMIT_PAGE {

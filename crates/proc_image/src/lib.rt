@@ -8,9 +8,15 @@ mod cell;
 mod count;
 pub mod effects;
 mod limits;
+pub mod loading;
 mod mapping;
 pub mod memory;
 mod page;
+pub mod stack;
+#[cfg(test)]
+mod tests;
 
 pub use effects::EffectFault;
+pub use loading::{LoadFault, load};
 pub use memory::Memory;
+pub use stack::StackFault;

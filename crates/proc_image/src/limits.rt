@@ -8,3 +8,7 @@ pub(crate) const MOST_MAPPED: u64 = 67_108_864;
 
 /// How many bytes the stack has.
 pub(crate) const STACK_BYTES: u64 = 1_048_576;
+
+/// The stack's first address, and the address after its last.
+pub(crate) const STACK_START: u32 = 0xBFEF_F000;
+pub(crate) const STACK_END: u32 = 0xBFFF_F000;

@@ -1,9 +1,10 @@
 //! Pages, and tables of them. A page or a table that isn't there is an empty one: it has no room, and nothing is mapped
 //! in it.
 
-ghost use Rattle.std.specs.Prelude.{◌≡◌, ◌<◌, ◌≤◌, ◌↔◌, ℕ, [], None, IsTrue, MatchOption, length, slice_index_or, slice_set, OnOk};
+ghost use Rattle.std.specs.Prelude.{◌≡◌, ◌+◌, ◌++◌, ◌<◌, ◌≤◌, ◌↔◌, ℕ, [], None, IsTrue, MatchOption, drop, length, slice_index_or, slice_set, OnOk};
+ghost use Rattle.mv_base.specs.Memory.{exec_bytes};
 ghost use Rattle.proc_image.specs.Counting.{some_below};
-ghost use Rattle.proc_image.specs.Paged.{IsLonger, is_mapped_in};
+ghost use Rattle.proc_image.specs.Paged.{IsLonger, exec_byte_in, is_mapped_in};
 
 use crate::cell::Cell;
 use mv_base::NoMemory;
@@ -68,6 +69,31 @@ impl Page {
             }
         }
         false
+    }
+
+    /// The byte to be executed at a place; `None` where no cell there can be.
+    fn exec_byte(&self, place: usize) -> Option<u8>
+        ensures { result ≡ exec_byte_in self.now place }
+    {
+        match self.cell(place) {
+            Some(cell) if cell.is_executable() => Some(cell.byte()),
+            _ => None,
+        }
+    }
+
+    /// Copies the executable bytes from a place on, at most 15, to the front of `to`, and gives their number.
+    pub fn exec_bytes(&self, place: usize, to: &mut [u8; 15]) -> usize
+        requires { place + 15 ≤ 4096 }
+        ensures copied { to.new ≡ exec_bytes (exec_byte_in self.now) place 15 ++ drop (length (exec_bytes (exec_byte_in self.now) place 15)) to.old }
+        ensures number { result ≡ length (exec_bytes (exec_byte_in self.now) place 15) }
+    {
+        for i in 0..15 {
+            match self.exec_byte(place + i) {
+                Some(byte) => to[i] = byte,
+                None => return i,
+            }
+        }
+        15
     }
 
     /// Maps a cell at a place that the page has, or with `None` takes it away.

@@ -2,3 +2,5 @@
 pub mod Rounding
 pub mod Fetched
 pub mod Applied
+pub mod Coming
+pub mod Answering

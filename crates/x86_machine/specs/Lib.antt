@@ -2,3 +2,5 @@ pub mod Calls
 pub mod TurnResults
 pub mod Machines
 pub mod Bounded
+pub mod Stepping
+pub mod Starting

@@ -1,7 +1,7 @@
 use Rattle.std.proofs.Common.{◌∙◌, ◌%◌, ◌/◌, ◌∷◌, [], ap, sym, arith}
 use Rattle.mv_base.specs.Memory.{put, address_after}
 use Rattle.proc_image.specs.Paged.{cells}
-use Rattle.proc_image.specs.Writing.{put-append}
+use Rattle.proc_image.specs.Laws.{put-append}
 use Rattle.proc_image.proofs.memory.Memory.put_word.Goals as goal
 
 pub returns : goal.returns

@@ -1,7 +1,7 @@
 use Rattle.std.proofs.Common.{◌≡◌, ◌+◌, ◌-◌, ◌++◌, length, take, drop}
 use Rattle.mv_base.specs.Memory.{exec_byte, exec_bytes}
 use Rattle.proc_image.specs.Paged.{cells}
-use Rattle.proc_image.proofs.memory.Memory.exec_bytes.Given as goal
+use Rattle.proc_image.proofs.memory.Memory.exec_bytes_apart.Given as goal
 
 abbrev pub invariant-loop-i : goal.invariant-loop-i
 invariant-loop-i l = record {

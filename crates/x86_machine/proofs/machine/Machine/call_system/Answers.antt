@@ -1,0 +1,60 @@
+use Rattle.std.proofs.Common.{◌≡◌, ◌<◌, ◌≤◌, ◌+◌, ◌∷◌, ◌++◌, [], ℕ, List, length, map, drop, get_or, slice_set, ◌∙◌, ap, ap₂, sym, subst, subst₂, arith, Err}
+use Rattle.std.specs.List.{AllByRecursion}
+use Rattle.mv_base.specs.Effects.{Answer, Ret, AllApplied, IsEffect, IsAnswer}
+use Rattle.x86_insn.specs.State.{State, Next, Stopped}
+use Rattle.x86_insn.specs.Step.{call_of, after_effects, system}
+use Rattle.x86_insn.specs.TakenUp.{first_effects}
+use Rattle.x86_insn.specs.declared.stop.Stop.TheVariants.{Gone}
+use Rattle.syscall_log.specs.declared.answer.Answer.{Answer as Reply}
+use Rattle.syscall_log.specs.Meaning.{effect_of, answer_of, answers_of}
+use Rattle.proc_image.specs.Paged.{cells}
+use Rattle.x86_machine.specs.Bounded.{apply_bounded, AreApplied}
+use Rattle.x86_machine.specs.Stepping.{answers_from, core_of, state_of, Comes, ComesTo}
+use Rattle.x86_machine.proofs.Answering.{taken-answer, no-answer, answer-keeps, ret-comes, fault-comes, gone-comes, none-comes}
+use Rattle.x86_machine.proofs.machine.Machine.call_system.Goals as goal
+
+pub apply_all-requires : goal.apply_all-requires
+apply_all-requires c =
+    let h = c.in-Some-Ret.ensures {u = tt} in
+    let kept = subst (λ xs. IsAnswer (answer_of (get_or xs c.args.answers.now.next c.in-Some-Ret.field-0.now))) (sym c.as_slice.ensures)
+            (answer-keeps c.args.answers.now.log.now.answers c.args.answers.now.next c.in-Some-Ret.field-0.now c.args.answers.now.log.now.bounds.answers_keep (subst (λ xs. c.args.answers.now.next < length xs) c.as_slice.ensures h.lookup.3.0)) in
+    let own : IsAnswer (answer_of c.in-Some-Ret.field-0.now) = subst (λ a. IsAnswer (answer_of a)) (sym h.lookup.1) kept in
+    subst (λ es. AllByRecursion IsEffect (map effect_of es)) (sym c.as_slice-in-Some-Ret.ensures) (subst (λ a. IsAnswer (answer_of a)) c.in-Some-Ret.field-0-is own).1
+
+pub returns-in-Ok-clause-is : goal.returns-in-Ok-clause-is
+returns-in-Ok-clause-is c =
+    let log = c.args.answers.now.log.now in
+    let k = c.args.answers.now.next in
+    let h = c.in-Some-Ret.ensures {u = tt} in
+    let s = state_of c.args.self.now (answers_from log k) in
+    let taken = taken-answer log.answers c.as_slice.result.now k c.in-Some-Ret.field-0.now _ c.as_slice.ensures h.lookup.3.0 h.lookup.1 c.in-Some-Ret.field-0-is in
+    let applied = ap (λ es. apply_bounded s.memory (map effect_of es)) (sym c.as_slice-in-Some-Ret.ensures) ∙ c.in-Ok.ensures in
+    let calls = c.push.ensures.made ∙ ap (λ w. s.calls ++ w ∷ []) c.call-call.ensures in
+    subst₂ (λ n made. Comes (first_effects s.answers) (system s c.args.next s.answers) s (Next (record s { core = record (s.core) { regs = slice_set s.core.regs n c.in-Some-Ret.eax }; eip = c.args.next; memory = cells c.apply_all.new.memory; answers = answers_from log (k + 1); calls = made })))
+    (sym c.number.ensures.is) (sym calls) (ret-comes s c.args.next _ _ c.in-Some-Ret.eax _ taken (cells c.apply_all.new.memory) applied)
+
+pub returns-in-Err-clause-is : goal.returns-in-Err-clause-is
+returns-in-Err-clause-is c =
+    let log = c.args.answers.now.log.now in
+    let k = c.args.answers.now.next in
+    let h = c.in-Some-Ret.ensures {u = tt} in
+    let s = state_of c.args.self.now (answers_from log k) in
+    let taken = taken-answer log.answers c.as_slice.result.now k c.in-Some-Ret.field-0.now _ c.as_slice.ensures h.lookup.3.0 h.lookup.1 c.in-Some-Ret.field-0-is in
+    let faults = subst (λ es. AreApplied s.memory (map effect_of es) (cells c.apply_all.new.memory) (Err c.in-Err.fault)) c.as_slice-in-Some-Ret.ensures c.in-Err.ensures in
+    subst (λ r. ComesTo (first_effects s.answers) (system s c.args.next s.answers) s r (record s { memory = cells c.apply_all.new.memory })) (sym c.refused.ensures)
+    (fault-comes s c.args.next _ _ c.in-Some-Ret.eax _ taken c.in-Err.fault (cells c.apply_all.new.memory) faults)
+
+pub returns-in-Some-Gone-clause-is : goal.returns-in-Some-Gone-clause-is
+returns-in-Some-Gone-clause-is c =
+    let log = c.args.answers.now.log.now in
+    let k = c.args.answers.now.next in
+    let h = c.in-Some-Gone.ensures {u = tt} in
+    let s = state_of c.args.self.now (answers_from log k) in
+    let taken = taken-answer log.answers c.as_slice.result.now k c.in-Some-Gone.field-0.now _ c.as_slice.ensures h.lookup.3.0 h.lookup.1 c.in-Some-Gone.field-0-is in
+    let calls = c.push-in-Some-Gone.ensures.made ∙ ap (λ w. s.calls ++ w ∷ []) c.call-call-in-Some-Gone.ensures in
+    subst (λ made. Comes (first_effects s.answers) (system s c.args.next s.answers) s (Stopped Gone (record s { answers = answers_from log (k + 1); calls = made }))) (sym calls) (gone-comes s c.args.next _ _ taken)
+
+pub returns-in-None-clause-is : goal.returns-in-None-clause-is
+returns-in-None-clause-is c =
+    let h = c.in-None.ensures {u = tt} in
+    none-comes (state_of c.args.self.now (answers_from c.args.answers.now.log.now c.args.answers.now.next)) c.args.next _ (no-answer c.args.answers.now.log.now.answers c.args.answers.now.next (subst (λ xs. length xs ≤ c.args.answers.now.next) c.as_slice.ensures h.lookup.3))

@@ -1,0 +1,217 @@
+//! The user machine: a memory, eight registers, flags, and the calls made.
+
+ghost use Rattle.std.specs.Prelude.{◌≡◌, ◌+◌, ◌-◌, ◌≤◌, [], ℕ, List, length};
+ghost use Rattle.mv_base.specs.Effects.{Answer as AnswerOf};
+ghost use Rattle.x86_insn.specs.Round.{limit, hop};
+ghost use Rattle.x86_insn.specs.Step.{call_of, rounds, turn, after_rounds, after_hop, system};
+ghost use Rattle.x86_insn.specs.TakenUp.{first_effects};
+ghost use Rattle.proc_image.specs.Paged.{cells};
+ghost use Rattle.x86_machine.specs.Stepping.{answers_from, core_of, state_of, outcome_of, refused_as, ComesTo, IsStep, KeepsRoom};
+
+use crate::call::{Call, CallList};
+use crate::fetching::{Fetched, fetch};
+use crate::running::{Ran, run_rounds};
+use crate::system::apply_all;
+use crate::turns::{Transfer, Turn, take_turn};
+use proc_image::{EffectFault, Memory};
+use syscall_log::{Answer, Log};
+use x86_insn::{Core, Flags, Flow, Insn, Kind, Reg, Stop};
+
+/// What a step gives. All but `Next` stop the machine: a trap with its address (0 where it has none), bytes that are no
+/// instruction, no answer left, an answer that can't be applied, the end of the program, more mapped pages than are
+/// allowed (with their bytes), or want of memory.
+#[derive(Clone, Copy)]
+pub enum Outcome {
+    Next,
+    Trap(Kind, u32),
+    Outside,
+    NoAnswer,
+    BadAnswer,
+    Gone,
+    TooLarge(u64),
+    NoMemory,
+}
+
+/// The answers of a log, and how many of them are used.
+#[derive(Clone, Copy)]
+pub struct Answers<'a> {
+    pub log: &'a Log,
+    pub next: usize,
+}
+
+/// A user machine with one thread.
+#[derive(Drop)]
+pub struct Machine {
+    pub regs: [u32; 8],
+    pub eip: u32,
+    pub flags: Flags,
+    pub memory: Memory,
+    pub calls: CallList,
+}
+
+impl Machine {
+    /// One whole instruction. All but `Next` leave the machine as it was, but for the completed iterations of a repeated
+    /// string instruction, effects before one that isn't applied, and the call and the answer of `Gone`.
+    ///
+    /// It takes memory only where an effect maps. `TooLarge` comes where a map would leave more than 16,384 pages with a
+    /// mapped byte, with their bytes.
+    pub fn step(&mut self, answers: &mut Answers) -> Outcome
+        requires next { answers.old.next ≤ length answers.old.log.now.answers }
+        requires room { length answers.old.log.now.answers ≤ self.old.calls.spare + answers.old.next }
+        ensures is { IsStep (state_of self.old (answers_from answers.old.log.now answers.old.next)) result (state_of self.new (answers_from answers.new.log.now answers.new.next)) }
+        ensures log { answers.new.log.now ≡ answers.old.log.now }
+        ensures next { answers.new.next ≤ length answers.new.log.now.answers }
+        ensures room { length answers.new.log.now.answers ≤ self.new.calls.spare + answers.new.next }
+        ensures spare { KeepsRoom self.old self.new }
+    {
+        match fetch(&self.memory, self.eip) {
+            Fetched::Absent => Outcome::Trap(Kind::FetchFault, self.eip),
+            Fetched::Unknown => Outcome::Outside,
+            Fetched::Found { insn, len } => {
+                let next = self.eip.wrapping_add(u32::from(len));
+                match insn.next_kind() {
+                    Flow::Plain | Flow::Trap => self.run(&insn, next),
+                    Flow::System => self.call_system(next, answers),
+                    Flow::Jump
+                    | Flow::Branch
+                    | Flow::Count
+                    | Flow::Call
+                    | Flow::JumpVia
+                    | Flow::CallVia
+                    | Flow::Return => self.transfer(&insn, next),
+                }
+            }
+        }
+    }
+
+    /// The registers and flags.
+    fn core(&self) -> Core
+        ensures { result ≡ core_of self.now }
+    {
+        let regs = self.regs;
+        Core {
+            regs,
+            flags: self.flags,
+        }
+    }
+
+    /// Sets the registers and flags.
+    fn set_core(&mut self, core: Core)
+        ensures { self.new ≡ record self.old { regs = core.regs; flags = core.flags } }
+    {
+        let regs = core.regs;
+        self.regs = regs;
+        self.flags = core.flags;
+    }
+
+    /// An instruction of flow Plain or Trap; `next` is the address after it.
+    fn run(&mut self, insn: &Insn, next: u32) -> Outcome
+        ensures is { (answers : List AnswerOf) → ComesTo [] (after_rounds (state_of self.old answers) next (rounds (limit insn.now (core_of self.old)) insn.now (core_of self.old) (cells self.old.memory))) (state_of self.old answers) result (state_of self.new answers) }
+        ensures calls { self.new.calls ≡ self.old.calls }
+    {
+        match run_rounds(insn, self.core(), &mut self.memory) {
+            Ran::Completed(core) => {
+                self.set_core(core);
+                self.eip = next;
+                Outcome::Next
+            }
+            Ran::Broken(stop, core) => {
+                self.set_core(core);
+                outcome_of(stop)
+            }
+        }
+    }
+
+    /// A control transfer; `next` is the address after it.
+    fn transfer(&mut self, insn: &Insn, next: u32) -> Outcome
+        ensures is { (answers : List AnswerOf) → ComesTo [] (after_hop (state_of self.old answers) (turn (cells self.old.memory) (hop next insn.now (core_of self.old)))) (state_of self.old answers) result (state_of self.new answers) }
+        ensures calls { self.new.calls ≡ self.old.calls }
+    {
+        let core = self.core();
+        let transfer = Transfer {
+            next,
+            insn,
+            core: &core,
+        };
+        match take_turn(&mut self.memory, &transfer) {
+            Turn::Ended { core, end } => {
+                self.set_core(core);
+                self.eip = end;
+                Outcome::Next
+            }
+            Turn::Halted(stop) => outcome_of(stop),
+        }
+    }
+
+    /// A system call takes the next answer; `next` is the address after the instruction.
+    fn call_system(&mut self, next: u32, answers: &mut Answers) -> Outcome
+        requires next { answers.old.next ≤ length answers.old.log.now.answers }
+        requires room { length answers.old.log.now.answers ≤ self.old.calls.spare + answers.old.next }
+        ensures is { ComesTo (first_effects (answers_from answers.old.log.now answers.old.next)) (system (state_of self.old (answers_from answers.old.log.now answers.old.next)) next (answers_from answers.old.log.now answers.old.next)) (state_of self.old (answers_from answers.old.log.now answers.old.next)) result (state_of self.new (answers_from answers.new.log.now answers.new.next)) }
+        ensures log { answers.new.log.now ≡ answers.old.log.now }
+        ensures next { answers.new.next ≤ length answers.new.log.now.answers }
+        ensures room { length answers.new.log.now.answers ≤ self.new.calls.spare + answers.new.next }
+        ensures spare { KeepsRoom self.old self.new }
+    {
+        let log = answers.log;
+        match log.answers.as_slice().get(answers.next) {
+            Some(Answer::Ret { eax, effects }) => {
+                match apply_all(&mut self.memory, effects.as_slice()) {
+                    Ok(()) => {
+                        let call = self.call();
+                        self.calls.push(call);
+                        self.regs[Reg::Eax.number()] = *eax;
+                        self.eip = next;
+                        answers.next += 1;
+                        Outcome::Next
+                    }
+                    Err(fault) => refused(fault),
+                }
+            }
+            Some(Answer::Gone) => {
+                let call = self.call();
+                self.calls.push(call);
+                answers.next += 1;
+                Outcome::Gone
+            }
+            None => Outcome::NoAnswer,
+        }
+    }
+
+    /// The call that the registers make.
+    fn call(&self) -> Call
+        ensures { result.words ≡ call_of (core_of self.now) }
+    {
+        let regs = &self.regs;
+        Call {
+            words: [
+                regs[0], regs[3], regs[1], regs[2], regs[6], regs[7], regs[5],
+            ],
+        }
+    }
+}
+
+/// The outcome of a stop.
+fn outcome_of(stop: Stop) -> Outcome
+    ensures { result ≡ outcome_of stop }
+{
+    match stop {
+        Stop::Trap(kind, at) => Outcome::Trap(kind, at),
+        Stop::Outside => Outcome::Outside,
+        Stop::NoAnswer => Outcome::NoAnswer,
+        Stop::BadAnswer => Outcome::BadAnswer,
+        Stop::Gone => Outcome::Gone,
+    }
+}
+
+/// The outcome of an effect that isn't applied.
+fn refused(fault: EffectFault) -> Outcome
+    ensures { result ≡ refused_as fault }
+{
+    match fault {
+        EffectFault::Executable => Outcome::Outside,
+        EffectFault::NotMapped(_) | EffectFault::NotWritable(_) => Outcome::BadAnswer,
+        EffectFault::TooLarge(size) => Outcome::TooLarge(size),
+        EffectFault::NoMemory => Outcome::NoMemory,
+    }
+}
