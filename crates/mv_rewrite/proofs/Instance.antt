@@ -22,7 +22,7 @@ use Rattle.x86_insn.specs.Round.{round, limit}
 use Rattle.x86_insn.specs.declared.ask.Ask.TheVariants.{Ends}
 use Rattle.x86_insn.specs.Step.{Found, fetch, after_turn, rounds, after_rounds, executed, step}
 use Rattle.x86_insn.specs.Run.{state_after}
-use Rattle.x86_decode.specs.Laws.{decoded_by_front}
+use Rattle.x86_insn.specs.Laws.{decoded_of}
 use Rattle.elf32_read.specs.Faults.{refusal, load_refusal, limit_fault, head_fault, headers_fault, header_fault, segment_fault}
 use Rattle.elf32_read.specs.Fields.{headers, header_at, segments}
 use Rattle.elf32_read.specs.Load.{load, segment_cell}
@@ -89,11 +89,11 @@ memory = joined (load file) start.cells
 
 stands : (a y n : ℕ) (bytes : List ℕ) (i : Insn) → exec_byte memory a ≡ Some y → exec_bytes (exec_byte memory) a 15 ≡ bytes → n ≤ length bytes → spelled (take n bytes) ≡ Some i → fetch memory a ≡ Found i n
 stands a y n bytes i first there long spells =
-    from_found (exec_byte memory) a i n (record { first = (y, first); reads = ap decoded there ∙ decoded_by_front bytes i n long spells })
+    from_found (exec_byte memory) a i n (record { first = (y, first); reads = ap decoded there ∙ decoded_of n bytes i spells long })
 
 -- `mov eax,1`
 first_spelled : spelled (0xB8 ∷ 1 ∷ 0 ∷ 0 ∷ 0 ∷ []) ≡ Some (Mov D (rm.R Eax) (src.Imm 1))
-unfolding spelled number
+unfolding spelled
 first_spelled = refl
 
 first_found : fetch memory 0x08048054 ≡ Found (Mov D (rm.R Eax) (src.Imm 1)) 5
@@ -102,7 +102,7 @@ first_found = stands 0x08048054 0xB8 5 (0xB8 ∷ 1 ∷ 0 ∷ 0 ∷ 0 ∷ 0xBB �
 
 -- `mov ebx,7`
 second_spelled : spelled (0xBB ∷ 7 ∷ 0 ∷ 0 ∷ 0 ∷ []) ≡ Some (Mov D (rm.R Ebx) (src.Imm 7))
-unfolding spelled number
+unfolding spelled
 second_spelled = refl
 
 second_found : fetch memory 0x08048059 ≡ Found (Mov D (rm.R Ebx) (src.Imm 7)) 5

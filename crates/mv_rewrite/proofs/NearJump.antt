@@ -6,7 +6,7 @@ use Rattle.mv_base.specs.Memory.{address_after, distance, exec_bytes}
 use Rattle.x86_insn.specs.declared.insn.Insn.TheVariants.{Jump}
 use Rattle.x86_insn.specs.Spelling.{decoded}
 use Rattle.x86_insn.specs.Step.{Found, fetch_in}
-use Rattle.x86_decode.specs.Laws.{decoded_near_jump}
+use Rattle.x86_insn.specs.Laws.{near_jump}
 use Rattle.mv_rewrite.specs.Pieces.{jump_bytes}
 use Rattle.mv_rewrite.proofs.DecodedAlike.{decoded_alike, bytes_stand, from_found}
 
@@ -25,7 +25,7 @@ jump_decoded : (here to : ℕ) → decoded (jump_bytes here to) ≡ Some (Jump (
 unfolding reach
 jump_decoded here to =
     let n = distance (address_after here 5) to in
-    ap (λ (t : List ℕ). decoded (0xE9 ∷ t)) (sym (append-nil (word n))) ∙ decoded_near_jump n [] (distance_below (address_after here 5) to)
+    ap (λ (t : List ℕ). decoded (0xE9 ∷ t)) (sym (append-nil (word n))) ∙ near_jump n [] (distance_below (address_after here 5) to)
 
 pub jump_found : (code : ℕ → Option ℕ) (here to : ℕ) → ((k : ℕ) → k < 5 → code (here + k) ≡ Some (slice_index (jump_bytes here to) k)) → fetch_in code here ≡ Found (Jump (reach here to)) 5
 jump_found code here to at =

@@ -1,5 +1,3 @@
--- the definitions that this crate's contracts, and those of the crates above, cite
+pub mod Candidates
+pub mod Reading
 pub mod Decoding
--- what holds of them, for the proofs of this crate and of the crates above
-pub mod Spellings
-pub mod Laws

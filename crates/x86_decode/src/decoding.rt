@@ -1,11 +1,21 @@
 //! Decoding: the instruction that the first bytes of a list spell. Intel SDM, volume 2.
 
-ghost use Rattle.std.specs.Prelude.{◌≡◌, ◌+◌, ◌<◌, ◌∷◌};
+ghost use Rattle.std.specs.Prelude.{◌≡◌, ◌≤◌, ◌<◌, ◌+◌, [], ◌∷◌, length};
+ghost use Rattle.x86_insn.specs.Scanning.{scan, scan_rows};
+ghost use Rattle.x86_insn.specs.Rows.{rows};
+ghost use Rattle.x86_decode.specs.Candidates.{rows_behind, forms_at, scan_rest, scan_forms};
+ghost use Rattle.x86_decode.specs.Reading.{scan_of, len_of};
 ghost use Rattle.x86_decode.specs.Decoding.{IsDecoded};
-ghost use Rattle.x86_insn.specs.Spelling.{reg_of};
 
-use mv_base::u32_at;
-use x86_insn::{Insn, Reg, Rm, Src, Width};
+use crate::form::{scan_forms, scan_operands};
+use crate::opcode_map::{hint, interrupt, one_byte, one_byte_group, two_byte, two_byte_group};
+use crate::prefixes::{marks_of, may_stand_together, prefix_count};
+use crate::reading::Reading;
+use x86_insn::row::Marks;
+use x86_insn::{Insn, Rep};
+
+/// The most bytes that an instruction has.
+const LIMIT: usize = 15;
 
 /// What bytes decode to. The three answers are this project's own.
 #[derive(Clone, Copy)]
@@ -18,90 +28,153 @@ pub enum Decoded {
     Unknown,
 }
 
-/// The instruction that a front of the bytes spells, with the front's length. It looks at no more than 15 bytes.
+/// The instruction that a front of the bytes spells, with the front's length. It looks at no more than 15 bytes and
+/// takes no memory.
 pub fn decode(bytes: &[u8]) -> Decoded
     ensures { IsDecoded bytes.now result }
 {
-    let Some((opcode, operands)) = bytes.split_first() else {
-        return Decoded::Short;
-    };
-    match *opcode {
-        0xB8..=0xBF => move_immediate(*opcode - 0xB8, operands),
-        0x90 => Decoded::Insn {
-            insn: Insn::Nop,
-            len: 1,
+    let seen = &bytes[..bytes.len().min(LIMIT)];
+    match scan(seen) {
+        Reading::Found { insn, len } if len <= LIMIT => Decoded::Insn {
+            insn,
+            len: len as u8,
         },
-        0xE9 => near_jump(operands),
-        0xCD => interrupt(operands),
-        0xF4 => Decoded::Insn {
-            insn: Insn::Hlt,
-            len: 1,
-        },
+        Reading::More { len } if len <= LIMIT => Decoded::Short,
         _ => Decoded::Unknown,
     }
 }
 
-/// A move of four bytes to the register of this number.
-fn move_immediate(number: u8, operands: &[u8]) -> Decoded
-    requires { number < 8 }
-    ensures { IsDecoded ((0xB8 + number) ∷ operands.now) result }
+// What bytes come to, without the limit.
+fn scan(bytes: &[u8]) -> Reading
+    requires { length bytes.now ≤ 15 }
+    ensures { scan_of result ≡ scan bytes.now }
 {
-    match u32_at(operands, 0) {
-        Some(immediate) => Decoded::Insn {
-            insn: Insn::Mov {
-                width: Width::D,
-                dst: Rm::R(register(number)),
-                src: Src::Imm(immediate),
-            },
-            len: 5,
-        },
-        None => Decoded::Short,
-    }
-}
-
-/// The register of a number.
-fn register(number: u8) -> Reg
-    requires { number < 8 }
-    ensures { result ≡ reg_of number }
-{
-    match number {
-        0 => Reg::Eax,
-        1 => Reg::Ecx,
-        2 => Reg::Edx,
-        3 => Reg::Ebx,
-        4 => Reg::Esp,
-        5 => Reg::Ebp,
-        6 => Reg::Esi,
-        _ => Reg::Edi,
-    }
-}
-
-/// A near jump by four bytes.
-fn near_jump(operands: &[u8]) -> Decoded
-    ensures { IsDecoded (0xE9 ∷ operands.now) result }
-{
-    match u32_at(operands, 0) {
-        Some(rel) => Decoded::Insn {
-            insn: Insn::Jump { rel },
-            len: 5,
-        },
-        None => Decoded::Short,
-    }
-}
-
-/// An interrupt: that of system calls, or one that isn't known.
-fn interrupt(operands: &[u8]) -> Decoded
-    ensures { IsDecoded (0xCD ∷ operands.now) result }
-{
-    let Some((number, _)) = operands.split_first() else {
-        return Decoded::Short;
-    };
-    if *number == 0x80 {
-        Decoded::Insn {
-            insn: Insn::Int80,
-            len: 2,
-        }
+    let count = prefix_count(bytes);
+    let (prefixes, body) = bytes.split_at(count);
+    if may_stand_together(prefixes) {
+        scan_body(body, marks_of(prefixes)).later(count)
     } else {
-        Decoded::Unknown
+        Reading::Nothing
+    }
+}
+
+// What the bytes behind the prefixes come to.
+fn scan_body(bytes: &[u8], marks: Marks) -> Reading
+    ensures is { scan_of result ≡ scan_rest (rows_behind []) marks bytes.now }
+    ensures len { len_of (scan_of result) ≤ 13 }
+{
+    match bytes.split_first() {
+        None => lacks_opcode(marks),
+        Some((0x0F, rest)) => scan_escaped(rest, marks).later(1),
+        Some((0xCD, rest)) => scan_interrupt(rest, marks).later(1),
+        Some((opcode, rest)) => scan_one_byte(*opcode, rest, marks).later(1),
+    }
+}
+
+// What the bytes behind 0F come to.
+fn scan_escaped(bytes: &[u8], marks: Marks) -> Reading
+    ensures is { scan_of result ≡ scan_rest (rows_behind (0x0F ∷ [])) marks bytes.now }
+    ensures len { len_of (scan_of result) ≤ 12 }
+{
+    match bytes.split_first() {
+        None => lacks_escaped(marks),
+        Some((0x1E, rest)) => scan_hint(rest, marks).later(1),
+        Some((opcode, rest)) => scan_two_byte(*opcode, rest, marks).later(1),
+    }
+}
+
+// What the bytes behind CD come to.
+fn scan_interrupt(bytes: &[u8], marks: Marks) -> Reading
+    ensures is { scan_of result ≡ scan_rest (rows_behind (0xCD ∷ [])) marks bytes.now }
+    ensures len { len_of (scan_of result) ≤ 11 }
+{
+    let Some((number, rest)) = bytes.split_first() else {
+        return lacks_number(marks);
+    };
+    match interrupt(*number) {
+        Some(form) => scan_operands(&form, marks, *number, rest).later(1),
+        None => Reading::Nothing,
+    }
+}
+
+// What the bytes behind 0F 1E come to.
+fn scan_hint(bytes: &[u8], marks: Marks) -> Reading
+    ensures is { scan_of result ≡ scan_rest (rows_behind (0x0F ∷ 0x1E ∷ [])) marks bytes.now }
+    ensures len { len_of (scan_of result) ≤ 11 }
+{
+    let Some((opcode, rest)) = bytes.split_first() else {
+        return lacks_hint(marks);
+    };
+    match hint(*opcode) {
+        Some(form) => scan_operands(&form, marks, *opcode, rest).later(1),
+        None => Reading::Nothing,
+    }
+}
+
+// What operand bytes come to behind a one-byte opcode.
+fn scan_one_byte(opcode: u8, bytes: &[u8], marks: Marks) -> Reading
+    ensures is { scan_of result ≡ scan_forms (forms_at opcode (rows_behind [])) marks opcode bytes.now }
+    ensures len { len_of (scan_of result) ≤ 10 }
+{
+    match one_byte(opcode) {
+        Some(form) => scan_operands(&form, marks, opcode, bytes),
+        None => scan_forms(one_byte_group(opcode), marks, opcode, bytes),
+    }
+}
+
+// What operand bytes come to behind an opcode behind 0F.
+fn scan_two_byte(opcode: u8, bytes: &[u8], marks: Marks) -> Reading
+    ensures is { scan_of result ≡ scan_forms (forms_at opcode (rows_behind (0x0F ∷ []))) marks opcode bytes.now }
+    ensures len { len_of (scan_of result) ≤ 10 }
+{
+    match two_byte(opcode) {
+        Some(form) => scan_operands(&form, marks, opcode, bytes),
+        None => scan_forms(two_byte_group(opcode), marks, opcode, bytes),
+    }
+}
+
+// No byte is there behind the prefixes. LOCK asks for a ModRM byte.
+fn lacks_opcode(marks: Marks) -> Reading
+    ensures is { scan_of result ≡ scan_rest (rows_behind []) marks [] }
+    ensures len { len_of (scan_of result) ≤ 2 }
+{
+    match (marks.lock, marks.rep) {
+        (false, _) => Reading::More { len: 1 },
+        (true, Rep::Once) => Reading::More { len: 2 },
+        (true, Rep::F3) | (true, Rep::F2) => Reading::Nothing,
+    }
+}
+
+// No byte is there behind 0F: UD2 takes no prefix but those of the segments, and ENDBR32 takes F3.
+fn lacks_escaped(marks: Marks) -> Reading
+    ensures is { scan_of result ≡ scan_rest (rows_behind (0x0F ∷ [])) marks [] }
+    ensures len { len_of (scan_of result) ≤ 2 }
+{
+    match (marks.rep, marks.lock, marks.word) {
+        (Rep::Once, false, false) => Reading::More { len: 1 },
+        (Rep::Once, _, _) | (Rep::F3, false, false) => Reading::More { len: 2 },
+        (Rep::F3, _, _) | (Rep::F2, _, _) => Reading::Nothing,
+    }
+}
+
+// No byte is there behind CD.
+fn lacks_number(marks: Marks) -> Reading
+    ensures is { scan_of result ≡ scan_rest (rows_behind (0xCD ∷ [])) marks [] }
+    ensures len { len_of (scan_of result) ≤ 1 }
+{
+    match (marks.rep, marks.lock, marks.word) {
+        (Rep::Once, false, false) => Reading::More { len: 1 },
+        _ => Reading::Nothing,
+    }
+}
+
+// No byte is there behind 0F 1E.
+fn lacks_hint(marks: Marks) -> Reading
+    ensures is { scan_of result ≡ scan_rest (rows_behind (0x0F ∷ 0x1E ∷ [])) marks [] }
+    ensures len { len_of (scan_of result) ≤ 1 }
+{
+    match (marks.rep, marks.lock, marks.word) {
+        (Rep::F3, false, false) => Reading::More { len: 1 },
+        _ => Reading::Nothing,
     }
 }

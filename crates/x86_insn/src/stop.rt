@@ -1,7 +1,7 @@
 //! Why a machine stops. The kinds of trap follow the Intel SDM, volume 3, chapter 6; the rest is this project's own.
 
 /// Why a trap comes: an access that faults, a division, INT3, UD2, or HLT.
-#[derive(Clone, Copy)]
+#[derive(Clone, Copy, Debug, PartialEq, Eq)]
 pub enum Kind {
     ReadFault,
     WriteFault,

@@ -9,9 +9,7 @@ use crate::operands::{
     AH, accumulator, at_width, ends, ends_in, got_rm, got_src, reg_value, set_reg, with_flags,
 };
 use x86_alu::{alu, bump, div, logic_test, mul, negate};
-use x86_insn::{
-    AccessBytes, AluOp, Ask, Core, Flags, Kind, Reg, Rm, Src, Stop, UnOp, Width,
-};
+use x86_insn::{AccessBytes, AluOp, Ask, Core, Flags, Kind, Reg, Rm, Src, Stop, UnOp, Width};
 
 /// All but CMP write their value.
 fn alu_end(op: AluOp, width: Width, dst: &Rm, a: u32, b: u32, core: &Core) -> Ask<bool>
@@ -62,13 +60,7 @@ fn alu_with(
     }
 }
 
-pub fn test_round(
-    width: Width,
-    dst: &Rm,
-    src: &Src,
-    core: &Core,
-    got: &[AccessBytes],
-) -> Ask<bool>
+pub fn test_round(width: Width, dst: &Rm, src: &Src, core: &Core, got: &[AccessBytes]) -> Ask<bool>
     ensures { result ≡ test_round width dst.now src.now core.now got.now }
 {
     match got_rm(width, core, dst, got) {
@@ -91,13 +83,7 @@ fn test_with(width: Width, src: &Src, a: u32, core: &Core, rest: &[AccessBytes])
     }
 }
 
-pub fn bump_round(
-    up: bool,
-    width: Width,
-    dst: &Rm,
-    core: &Core,
-    got: &[AccessBytes],
-) -> Ask<bool>
+pub fn bump_round(up: bool, width: Width, dst: &Rm, core: &Core, got: &[AccessBytes]) -> Ask<bool>
     ensures { result ≡ bump_round up width dst.now core.now got.now }
 {
     match got_rm(width, core, dst, got) {
@@ -122,13 +108,7 @@ fn unary_end(op: UnOp, width: Width, dst: &Rm, a: u32, core: &Core) -> Ask<bool>
     }
 }
 
-pub fn unary_round(
-    op: UnOp,
-    width: Width,
-    dst: &Rm,
-    core: &Core,
-    got: &[AccessBytes],
-) -> Ask<bool>
+pub fn unary_round(op: UnOp, width: Width, dst: &Rm, core: &Core, got: &[AccessBytes]) -> Ask<bool>
     ensures { result ≡ unary_round op width dst.now core.now got.now }
 {
     match got_rm(width, core, dst, got) {
@@ -138,13 +118,7 @@ pub fn unary_round(
 }
 
 /// The register gets the old value, and then the destination the sum.
-pub fn xadd_round(
-    width: Width,
-    dst: &Rm,
-    src: Reg,
-    core: &Core,
-    got: &[AccessBytes],
-) -> Ask<bool>
+pub fn xadd_round(width: Width, dst: &Rm, src: Reg, core: &Core, got: &[AccessBytes]) -> Ask<bool>
     ensures { result ≡ xadd_round width dst.now src core.now got.now }
 {
     match got_rm(width, core, dst, got) {
@@ -173,14 +147,7 @@ fn cmpxchg_end(
     ensures { result ≡ cmpxchg_end width dst.now src a b core.now after.now }
 {
     if a == b {
-        ends_in(
-            false,
-            width,
-            dst,
-            reg_value(width, core, src),
-            core,
-            after,
-        )
+        ends_in(false, width, dst, reg_value(width, core, src), core, after)
     } else {
         ends_in(
             false,

@@ -81,9 +81,7 @@ fn bit_end(op: BitOp, width: Width, dst: &Rm, a: u32, index: u32, core: &Core) -
     let after = with_flags(flags, core);
     match op {
         BitOp::Bt => ends(false, after),
-        BitOp::Bts | BitOp::Btr | BitOp::Btc => {
-            ends_in(false, width, dst, value, core, &after)
-        }
+        BitOp::Bts | BitOp::Btr | BitOp::Btc => { ends_in(false, width, dst, value, core, &after) }
     }
 }
 

@@ -1,9 +1,17 @@
-//! The user machine: one whole instruction a step.
+//! The user machine: memory, eight registers and flags, and one whole instruction a step.
+//!
+//! An instruction is told apart from memory: `round` is the table of what each asks of it, by the registers and flags
+//! and by what it has read so far. The lines of the table stand in `moves`, `stack`, `arithmetic`, `bits`, `strings` and
+//! `transfers`, over `operands` and `conditions`; each equals its line of the definition in x86_insn.
+//!
+//! `turns` asks, reads and writes for any of them, `running` repeats that for the iterations of a string instruction,
+//! `system` applies the effects of an answer. `fetching` finds the instruction. `machine` has the machine and its step,
+//! `starting` its first state, `call` the system calls that it made.
 #![tactic(auto)]
 
 mod arithmetic;
 mod bits;
-mod call;
+pub mod call;
 mod conditions;
 mod fetching;
 pub mod machine;
@@ -15,5 +23,12 @@ mod stack;
 pub mod starting;
 mod strings;
 mod system;
+#[cfg(test)]
+mod tests;
 mod transfers;
 mod turns;
+
+pub use call::{Call, CallList};
+pub use machine::{Answers, Machine, Outcome};
+pub use starting::StartFault;
+pub use x86_insn::Kind;

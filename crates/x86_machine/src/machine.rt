@@ -20,7 +20,7 @@ use x86_insn::{Core, Flags, Flow, Insn, Kind, Reg, Stop};
 /// What a step gives. All but `Next` stop the machine: a trap with its address (0 where it has none), bytes that are no
 /// instruction, no answer left, an answer that can't be applied, the end of the program, more mapped pages than are
 /// allowed (with their bytes), or want of memory.
-#[derive(Clone, Copy)]
+#[derive(Clone, Copy, Debug, PartialEq, Eq)]
 pub enum Outcome {
     Next,
     Trap(Kind, u32),

@@ -5,7 +5,10 @@ ghost use Rattle.x86_insn.specs.Values.{modulus};
 ghost use Rattle.x86_insn.specs.Moves.{mov_round, xchg_round, lea_round, movx_value, movx_round, bswap_round, cmov_round, set_round, narrower, cbw_round, sign_filled, cwd_round, xlat_round};
 
 use crate::conditions::holds;
-use crate::operands::{accumulator, address_after, at_width, sign_extended, ends, ends_in, effective_address, got_at, got_rm, got_src, reg, reg_value, set_reg};
+use crate::operands::{
+    accumulator, address_after, at_width, effective_address, ends, ends_in, got_at, got_rm,
+    got_src, reg, reg_value, set_reg, sign_extended,
+};
 use x86_insn::{AccessBytes, Ask, Cond, Core, Mem, Reg, Rm, Src, Width};
 
 pub fn mov_round(width: Width, dst: &Rm, src: &Src, core: &Core, got: &[AccessBytes]) -> Ask<bool>
@@ -24,7 +27,14 @@ pub fn xchg_round(width: Width, dst: &Rm, other: Reg, core: &Core, got: &[Access
     match got_rm(width, core, dst, got) {
         Ok((value, _rest)) => {
             let after = set_reg(width, other, value, core);
-            ends_in(false, width, dst, reg_value(width, core, other), core, &after)
+            ends_in(
+                false,
+                width,
+                dst,
+                reg_value(width, core, other),
+                core,
+                &after,
+            )
         }
         Err((at, len)) => Ask::Reads { at, len },
     }
@@ -34,7 +44,15 @@ pub fn xchg_round(width: Width, dst: &Rm, other: Reg, core: &Core, got: &[Access
 pub fn lea_round(width: Width, dst: Reg, mem: &Mem, core: &Core) -> Ask<bool>
     ensures { result ≡ lea_round width dst mem.now core.now }
 {
-    ends(false, set_reg(width, dst, at_width(width, effective_address(core, mem)), core))
+    ends(
+        false,
+        set_reg(
+            width,
+            dst,
+            at_width(width, effective_address(core, mem)),
+            core,
+        ),
+    )
 }
 
 fn movx_value(signed: bool, from: Width, to: Width, value: u32) -> u32

@@ -152,7 +152,11 @@ pub fn limit(insn: &Insn, core: &Core) -> u32
     ensures { result ≡ limit insn.now core.now }
 {
     match insn {
-        Insn::Str { op: _, width: _, rep } => iterations(*rep, core),
+        Insn::Str {
+            op: _,
+            width: _,
+            rep,
+        } => iterations(*rep, core),
         _ => 1,
     }
 }

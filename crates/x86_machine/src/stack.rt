@@ -4,7 +4,8 @@ ghost use Rattle.std.specs.Prelude.{◌≡◌, ◌%◌, ◌^◌, ◌<◌};
 ghost use Rattle.x86_insn.specs.Moves.{risen, lowered, pushes, push_round, pop_round, pushed_bytes, pushad_round, popped_regs, popad_round, leave_round, pushfd_round, has_bit, flags_of_image, sets_other_flags, popfd_end, popfd_round, lahf_round, sahf_flags, sahf_round, flag_changed, flag_round};
 
 use crate::operands::{
-    AH, address_after, address_before, bytes_of, ends, ends_in, got_at, got_src, reg, reg_value, set_reg, with_flags,
+    AH, address_after, address_before, bytes_of, ends, ends_in, got_at, got_src, reg, reg_value,
+    set_reg, with_flags,
 };
 use x86_insn::{AccessBytes, AccessLen, Ask, Core, FlagOp, Flags, Reg, Rm, Src, Stop, Width};
 

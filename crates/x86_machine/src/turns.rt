@@ -93,11 +93,7 @@ pub fn take_turn<E: Drop, A: Asks<E>>(memory: &mut Memory, asker: &A) -> Turn<E>
 }
 
 #[tactic(auto, unfolding(x86_insn::specs::Step::asks))]
-fn after_one<E: Drop, A: Asks<E>>(
-    memory: &mut Memory,
-    asker: &A,
-    first: AccessBytes,
-) -> Turn<E>
+fn after_one<E: Drop, A: Asks<E>>(memory: &mut Memory, asker: &A, first: AccessBytes) -> Turn<E>
     ensures is { asks 1 (cells memory.old) (A.Asks.asked asker.now) (first ∷ []) ≡ turned result (cells memory.new) }
     ensures kept { KeptWhereHalted result (cells memory.old) (cells memory.new) }
 {

@@ -1,31 +1,19 @@
-use Rattle.std.proofs.Common.{List, ℕ, ap, length, sym, subst, arith}
-use Rattle.std.proofs.lemmas.List.{nil_from_length}
-use Rattle.x86_decode.specs.Decoding.{IsDecoded}
-use Rattle.x86_decode.specs.declared.decoding.Decoded.TheVariants.{Short, Unknown}
-use Rattle.x86_decode.specs.Spellings.{empty_short, nop_decoded, halt_decoded, other_unknown}
+use Rattle.std.proofs.Common.{arith}
+use Rattle.x86_insn.specs.Scanning.{Found, More, Nothing}
+use Rattle.x86_decode.proofs.Whole.{found_is, more_is, unknown_is}
 use Rattle.x86_decode.proofs.decoding.decode.Goals as goal
 
+pub returns-in-Found : goal.returns-in-Found
+returns-in-Found c = found_is c.args.bytes.now c.min.result c.in-Found.insn c.in-Found.len (λ k. omega (arith, c.type_inv.bytes k)) c.min.ensures c.in-Found.ensures c.if-len-le-LIMIT.true
+
+pub returns-in-More : goal.returns-in-More
+returns-in-More c = more_is c.args.bytes.now c.min.result c.in-More.len (λ k. omega (arith, c.type_inv.bytes k)) c.min.ensures c.in-More.ensures c.if-len-le-LIMIT-2.true
+
 pub returns-in_default : goal.returns-in_default
-returns-in_default c =
-    let e = nil_from_length c.args.bytes.now c.in_default.ensures.cases in
-    subst (λ (s : List ℕ). IsDecoded s Short) (sym e) empty_short
+returns-in_default c = unknown_is c.args.bytes.now c.min.result (Found c.in-Found.insn c.in-Found.len) c.min.ensures c.in-Found.ensures c.if-len-le-LIMIT.false
 
-pub returns-in-144 : goal.returns-in-144
-returns-in-144 c =
-    let e = c.in-Some.ensures.cases.0 in
-    (cc (nop_decoded c.in-Some.operands.now, e), omega (arith, ap length e))
+pub returns-in_default-2 : goal.returns-in_default-2
+returns-in_default-2 c = unknown_is c.args.bytes.now c.min.result (More c.in-More.len) c.min.ensures c.in-More.ensures c.if-len-le-LIMIT-2.false
 
-pub returns-in-244 : goal.returns-in-244
-returns-in-244 c =
-    let e = c.in-Some.ensures.cases.0 in
-    (cc (halt_decoded c.in-Some.operands.now, e), omega (arith, ap length e))
-
-pub returns-in_default-opcode : goal.returns-in_default-opcode
-returns-in_default-opcode c =
-    let e = c.in-Some.ensures.cases.0 in
-    subst (λ (s : List ℕ). IsDecoded s Unknown) (sym e) (other_unknown c.in-Some.opcode.now c.in-Some.operands.now (λ w. omega (arith, w), λ w. omega arith, λ w. omega arith, λ w. omega arith, λ w. omega arith))
-
-pub returns-in_default-opcode-2 : goal.returns-in_default-opcode-2
-returns-in_default-opcode-2 c =
-    let e = c.in-Some.ensures.cases.0 in
-    subst (λ (s : List ℕ). IsDecoded s Unknown) (sym e) (other_unknown c.in-Some.opcode.now c.in-Some.operands.now (λ w. omega (arith, w), λ w. omega arith, λ w. omega arith, λ w. omega arith, λ w. omega arith))
+pub returns-in_default-3 : goal.returns-in_default-3
+returns-in_default-3 c = unknown_is c.args.bytes.now c.min.result Nothing c.min.ensures c.in_default.ensures tt

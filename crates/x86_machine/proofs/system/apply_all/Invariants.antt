@@ -10,5 +10,5 @@ abbrev pub invariant-loop-effect : goal.invariant-loop-effect
 invariant-loop-effect l = record {
   left : apply_bounded (cells l.fn.memory) (map effect_of l.effects) ≡ apply_bounded (cells l.memory) (map effect_of (drop l.effect-index l.effects));
   bounds : AllByRecursion IsEffect (map effect_of (drop l.effect-index l.effects));
-  stand : apply_all (cells l.fn.memory) (map effect_of (take l.effect-index l.effects)) ≡ AllApplied (cells l.memory)
+  stand : apply_all (cells l.fn.memory) (map effect_of (take l.effect-index l.effects)) ≡ AllApplied (cells l.memory);
 }

@@ -17,7 +17,7 @@ pub apply_all-requires : goal.apply_all-requires
 apply_all-requires c =
     let h = c.in-Some-Ret.ensures {u = tt} in
     let kept = subst (λ xs. IsAnswer (answer_of (get_or xs c.args.answers.now.next c.in-Some-Ret.field-0.now))) (sym c.as_slice.ensures)
-            (answer-keeps c.args.answers.now.log.now.answers c.args.answers.now.next c.in-Some-Ret.field-0.now c.args.answers.now.log.now.bounds.answers_keep (subst (λ xs. c.args.answers.now.next < length xs) c.as_slice.ensures h.lookup.3.0)) in
+    (answer-keeps c.args.answers.now.log.now.answers c.args.answers.now.next c.in-Some-Ret.field-0.now c.args.answers.now.log.now.bounds.answers_keep (subst (λ xs. c.args.answers.now.next < length xs) c.as_slice.ensures h.lookup.3.0)) in
     let own : IsAnswer (answer_of c.in-Some-Ret.field-0.now) = subst (λ a. IsAnswer (answer_of a)) (sym h.lookup.1) kept in
     subst (λ es. AllByRecursion IsEffect (map effect_of es)) (sym c.as_slice-in-Some-Ret.ensures) (subst (λ a. IsAnswer (answer_of a)) c.in-Some-Ret.field-0-is own).1
 

@@ -21,5 +21,5 @@ returns-in-Broken-clause-is c = λ answers.
     let i = c.args.insn.now in
     let why = c.in-Broken.stop in
     let stopped = ap (after_rounds (state_of m answers) c.args.next) (ap (λ k. rounds (limit i k) i k (cells m.memory)) (sym c.core.ensures) ∙ c.in-Broken.ensures)
-            ∙ ap (λ (n : Machine). Stopped why (state_of n answers)) (sym c.set_core-in-Broken.ensures) in
+    ∙ ap (λ (n : Machine). Stopped why (state_of n answers)) (sym c.set_core-in-Broken.ensures) in
     subst (λ r. ComesTo _ (after_rounds (state_of m answers) c.args.next (rounds (limit i (core_of m)) i (core_of m) (cells m.memory))) (state_of m answers) r (state_of c.set_core-in-Broken.new.self answers)) (sym c.outcome_of.ensures) (stops _ (state_of m answers) _ why stopped)

@@ -21,5 +21,5 @@ returns-in-Halted-clause-is c = λ answers.
     let i = c.args.insn.now in
     let why = c.in-Halted.stop in
     let stopped = ap (after_hop (state_of m answers)) (ap (λ k. turn (cells m.memory) (hop c.args.next i k)) (sym c.core-core.ensures) ∙ c.in-Halted.ensures.is)
-            ∙ ap (λ k. Stopped why (record (state_of m answers) { memory = k })) (sym c.in-Halted.ensures.kept) in
+    ∙ ap (λ k. Stopped why (record (state_of m answers) { memory = k })) (sym c.in-Halted.ensures.kept) in
     subst (λ r. ComesTo _ (after_hop (state_of m answers) (turn (cells m.memory) (hop c.args.next i (core_of m)))) (state_of m answers) r (record (state_of m answers) { memory = cells c.take_turn.new.memory })) (sym c.outcome_of.ensures) (stops _ (state_of m answers) _ why stopped)

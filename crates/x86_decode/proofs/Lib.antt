@@ -1,0 +1,6 @@
+pub mod Maps
+pub mod Best
+pub mod Lacking
+pub mod Among
+pub mod Behind
+pub mod Whole

@@ -1,0 +1,11 @@
+use Rattle.std.proofs.Common.{◌-◌, [], ◌∷◌, None, refl, arith}
+use Rattle.x86_insn.specs.Rows.{rows}
+use Rattle.x86_decode.specs.declared.opcode_map.TheConstants.{ONE_BYTE_C0}
+use Rattle.x86_decode.specs.Candidates.{rows_behind}
+use Rattle.x86_decode.proofs.Maps.{map_right}
+use Rattle.x86_decode.proofs.opcode_map.one_byte_c0.Goals as goal
+
+-- the part is computed
+pub returns : goal.returns
+unfolding rows_behind rows
+returns c = map_right ONE_BYTE_C0 0xC0 64 [] None refl (c.args.opcode - 0xC0) c.args.opcode (omega arith) (omega arith)
