@@ -16,27 +16,44 @@ const IMAGE: [u8; 96] = [
     0, 0, 0xb8, 1, 0, 0, 0, 0xbb, 7, 0, 0, 0, 0xcd, 0x80,
 ];
 
-/// What a rewrite of `IMAGE` prints.
-const PRINTED: &str = "sites 3\nadded 00100000 00003000\ncounters 0\n";
+/// What a rewrite of `IMAGE` prints: all offsets but those of 07 and of the last byte are sites.
+const PRINTED: &str = "sites 10\nadded 00100000 00003000\ncounters 0\n";
 
-/// The code of its output: three slots of 32 bytes.
-const CODE: [u8; 96] = [
-    0xb8, 1, 0, 0, 0, 0xe9, 0x16, 0, 0, 0, 0, 0, 0, 0, 0, 0, 0, 0, 0, 0, 0, 0, 0, 0, 0, 0, 0, 0, 0,
-    0, 0, 0, 0xbb, 7, 0, 0, 0, 0xe9, 0x16, 0, 0, 0, 0, 0, 0, 0, 0, 0, 0, 0, 0, 0, 0, 0, 0, 0, 0, 0,
-    0, 0, 0, 0, 0, 0, 0xcd, 0x80, 0xe9, 0x19, 0x80, 0xf4, 7, 0, 0, 0, 0, 0, 0, 0, 0, 0, 0, 0, 0, 0,
-    0, 0, 0, 0, 0, 0, 0, 0, 0, 0, 0, 0,
+/// The slots of its output, each without the zeros behind it: a piece and a join.
+const SLOTS: [&[u8]; 10] = [
+    // mov eax,1
+    &[0xb8, 1, 0, 0, 0, 0xe9, 0x96, 0, 0, 0],
+    // add [eax],eax
+    &[1, 0, 0xe9, 0x39, 0, 0, 0],
+    // add [eax],al
+    &[0, 0, 0xe9, 0x39, 0, 0, 0],
+    // add [eax],al
+    &[0, 0, 0xe9, 0x39, 0, 0, 0],
+    // add [ebx+7],bh
+    &[0, 0xbb, 7, 0, 0, 0, 0xe9, 0x95, 0, 0, 0],
+    // mov ebx,7
+    &[0xbb, 7, 0, 0, 0, 0xe9, 0x76, 0, 0, 0],
+    // add [eax],al
+    &[0, 0, 0xe9, 0x39, 0, 0, 0],
+    // add [eax],al
+    &[0, 0, 0xe9, 0x39, 0, 0, 0],
+    // add ch,cl
+    &[0, 0xcd, 0xe9, 0x58, 0x7f, 0xf4, 7],
+    // int 0x80
+    &[0xcd, 0x80, 0xe9, 0x39, 0x7f, 0xf4, 7],
 ];
 
 /// The table of its output: an address for each byte of code.
 const TABLE: [u8; 48] = [
-    0, 0, 0x10, 0, 0, 0, 0, 0, 0, 0, 0, 0, 0, 0, 0, 0, 0, 0, 0, 0, 0x20, 0, 0x10, 0, 0, 0, 0, 0, 0,
-    0, 0, 0, 0, 0, 0, 0, 0, 0, 0, 0, 0x40, 0, 0x10, 0, 0, 0, 0, 0,
+    0, 0, 0x10, 0, 0x20, 0, 0x10, 0, 0x40, 0, 0x10, 0, 0x60, 0, 0x10, 0, 0x80, 0, 0x10, 0, 0xa0, 0,
+    0x10, 0, 0, 0, 0, 0, 0xc0, 0, 0x10, 0, 0xe0, 0, 0x10, 0, 0, 1, 0x10, 0, 0x20, 1, 0x10, 0, 0, 0,
+    0, 0,
 ];
 
 /// The frame record of its output, at 0x900.
 const RECORD: [u8; 76] = [
     0x4d, 0x56, 0x46, 0x52, 1, 0, 0, 0, 1, 0, 0, 0, 0x60, 0, 0, 0, 0, 0, 0x10, 0, 0, 0x30, 0, 0, 0,
-    0, 0x10, 0, 0x60, 0, 0, 0, 0, 0x10, 0x10, 0, 0x30, 0, 0, 0, 0, 0x20, 0x10, 0, 0x40, 0, 0, 0,
+    0, 0x10, 0, 0x40, 1, 0, 0, 0, 0x10, 0x10, 0, 0x30, 0, 0, 0, 0, 0x20, 0x10, 0, 0x40, 0, 0, 0,
     0x40, 0x20, 0x10, 0, 0, 0, 0, 0, 0x30, 0x10, 0x10, 0, 1, 0, 0, 0, 0x54, 0x80, 4, 8, 0x0c, 0, 0,
     0, 0, 0x10, 0x10, 0,
 ];
@@ -63,6 +80,21 @@ fn is_held(store: &MemStore, name: &str, bytes: &[u8]) -> bool {
     store.file(name).is_some_and(|held| held == bytes)
 }
 
+/// Whether a slot, of 32 bytes, has these bytes and then zeros.
+fn is_slot(slot: &[u8], bytes: &[u8]) -> bool {
+    slot.get(..bytes.len()) == Some(bytes)
+        && slot
+            .get(bytes.len()..)
+            .is_some_and(|rest| rest.iter().all(|byte| *byte == 0))
+}
+
+/// Whether code is the slots, and then zeros.
+fn are_slots(code: &[u8]) -> bool {
+    let mut slots = code.chunks(32);
+    SLOTS.iter().all(|bytes| slots.next().is_some_and(|slot| is_slot(slot, bytes)))
+        && slots.all(|slot| is_slot(slot, &[]))
+}
+
 /// Whether the name holds the output of `IMAGE`.
 fn is_output(store: &MemStore, name: &str) -> bool {
     store.file(name).is_some_and(|held| {
@@ -76,9 +108,7 @@ fn is_output(store: &MemStore, name: &str) -> bool {
             && held
                 .get(0x1000..0x1060)
                 .is_some_and(|part| part == IMAGE.as_slice())
-            && held
-                .get(0x2000..0x2060)
-                .is_some_and(|part| part == CODE.as_slice())
+            && held.get(0x2000..0x3000).is_some_and(are_slots)
             && held
                 .get(0x3000..0x3030)
                 .is_some_and(|part| part == TABLE.as_slice())
@@ -406,12 +436,12 @@ fn images_are_rewritten_or_refused(rt: HostRuntime) -> Result<(), Fail> {
         },
         done(
             &[ZEROS, CODE_AT_TWO],
-            "sites 3\nadded 00103000 00003000\ncounters 0\n",
+            "sites 10\nadded 00103000 00003000\ncounters 0\n",
             16_384,
         ),
         done(
             &[CODE_AT_TWO, CODE_AGAIN],
-            "sites 6\nadded 00100000 00003000\ncounters 0\n",
+            "sites 20\nadded 00100000 00003000\ncounters 0\n",
             16_384,
         ),
         Row {
