@@ -30,12 +30,10 @@ pub fn answer<W: Write>(alloc: Global, mut rest: Split<'_, char>, out: &mut W) -
 fn write_instruction<W: Write>(insn: &Insn, len: u8, out: &mut W) -> io::Result<()> {
     let (name, end) = mnemonic(insn);
     write!(out, "{len} {}{name}{end}", prefix(insn))?;
-    let mut between = " ";
-    for operand in operands(insn) {
+    for (place, operand) in operands(insn).iter().enumerate() {
         if !matches!(operand, Operand::Absent) {
-            write!(out, "{between}")?;
-            write_operand(operand, out)?;
-            between = ",";
+            write!(out, "{}", if place == 0 { " " } else { "," })?;
+            write_operand(*operand, out)?;
         }
     }
     writeln!(out)

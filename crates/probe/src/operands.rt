@@ -117,19 +117,22 @@ pub fn write_operand<W: Write>(operand: Operand, out: &mut W) -> io::Result<()> 
 
 // Base, index with its factor, and displacement, with `+` between them.
 fn write_address<W: Write>(mem: Mem, out: &mut W) -> io::Result<()> {
-    let mut between = "[";
+    let (has_base, has_index) = (mem.base.is_some(), mem.index.is_some());
+    write!(out, "[")?;
     if let Some(base) = mem.base {
-        write!(out, "{between}{}", register(Width::D, base))?;
-        between = "+";
+        write!(out, "{}", register(Width::D, base))?;
     }
     if let Some((index, factor)) = mem.index {
-        write!(out, "{between}{}*{factor}", register(Width::D, index))?;
-        between = "+";
+        write!(out, "{}{}*{factor}", plus(has_base), register(Width::D, index))?;
     }
-    if mem.disp != 0 || between == "[" {
-        write!(out, "{between}{:#x}", mem.disp)?;
+    if mem.disp != 0 || !(has_base || has_index) {
+        write!(out, "{}{:#x}", plus(has_base || has_index), mem.disp)?;
     }
     write!(out, "]")
+}
+
+fn plus(wanted: bool) -> &'static str {
+    if wanted { "+" } else { "" }
 }
 
 fn width_word(width: Width) -> &'static str {

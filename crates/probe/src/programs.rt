@@ -13,7 +13,7 @@ use std::io::{self, Write};
 use std::str::Split;
 use syscall_log::{Answer, AnswerList, Args, Effects, Log};
 use x86_insn::Width;
-use x86_machine::{Answers, Call, Kind, Machine, Outcome};
+use x86_machine::{Answers, Kind, Machine, Outcome};
 
 /// The most steps of `machine`.
 const MOST_STEPS: u32 = 1_000_000;
@@ -108,11 +108,12 @@ fn name(outcome: Outcome) -> &'static str {
 
 // The memory that the first call names; nothing from an address on that isn't mapped.
 fn write_memory<W: Write>(machine: &Machine, out: &mut W) -> io::Result<()> {
-    let Some(Call { words: [_, _, at, len, ..] }) = machine.calls.as_slice().first() else {
+    let Some(call) = machine.calls.as_slice().first() else {
         return Ok(());
     };
+    let [_, _, at, len, ..] = call.words;
     write!(out, " ")?;
-    for offset in 0..*len {
+    for offset in 0..len {
         match machine.memory.read(at.wrapping_add(offset), Width::B) {
             Ok(byte) => write!(out, "{byte:02x}")?,
             Err(_) => return Ok(()),
