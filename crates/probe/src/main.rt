@@ -4,12 +4,21 @@
 //! no command by `?`. Numbers are hexadecimal without a prefix.
 //!
 //! - `alu NAME WIDTH FLAGS A B C`: the module `values`.
+//! - `decode HEX`: the module `decoding`.
+//! - `machine HEX`, `steps COUNT HEX`: the module `programs`.
+//! - `sites TIMES HEX`: the module `superset_sites`.
 #![tactic(auto)]
 
+mod decoding;
+mod mnemonics;
+mod operands;
 mod operations;
+mod programs;
+mod superset_sites;
 mod values;
 mod words;
 
+use std::alloc::Global;
 use std::io::{self, BufRead, BufReader, BufWriter, Write};
 use std::str::Split;
 
@@ -17,16 +26,20 @@ fn main(rt: HostRuntime) -> io::Result<()> {
     let alloc = rt.alloc();
     let mut out = BufWriter::new(alloc, io::writer(&rt))?;
     for line in BufReader::new(alloc, rt.reader())?.lines(alloc) {
-        answer(line?.as_str(), &mut out)?;
+        answer(alloc, line?.as_str(), &mut out)?;
     }
     out.flush()
 }
 
 /// The answer to one line.
-fn answer<W: Write>(line: &str, out: &mut W) -> io::Result<()> {
+fn answer<W: Write>(alloc: Global, line: &str, out: &mut W) -> io::Result<()> {
     let mut rest = line.split(' ');
     match rest.next() {
         Some("alu") => values::answer(rest, out),
+        Some("decode") => decoding::answer(alloc, rest, out),
+        Some("machine") => programs::answer(alloc, rest, out),
+        Some("steps") => programs::answer_steps(alloc, rest, out),
+        Some("sites") => superset_sites::answer(alloc, rest, out),
         _ => writeln!(out, "?"),
     }
 }

@@ -1,10 +1,40 @@
-//! Words of a command as numbers, widths and flags.
+//! Words of a command as numbers, bytes, widths and flags.
 
+ghost use Rattle.std.specs.Prelude.{◌<◌, IfSome};
+
+use std::alloc::Global;
+use std::io;
 use x86_insn::{Flags, Width};
 
 /// A hexadecimal number below 2^32.
 pub fn number(word: &str) -> Option<u32> {
     u32::from_str_radix(word, 16).ok()
+}
+
+/// Bytes of two hexadecimal digits each.
+pub fn bytes(alloc: Global, word: &str) -> io::Result<Option<Vec<u8>>> {
+    let mut found = Vec::new(alloc);
+    for pair in word.as_bytes().chunks(2) {
+        let &[high, low] = pair else {
+            return Ok(None);
+        };
+        let (Some(high), Some(low)) = (digit(high), digit(low)) else {
+            return Ok(None);
+        };
+        found.push(16 * high + low)?;
+    }
+    Ok(Some(found))
+}
+
+// The value of a hexadecimal digit.
+fn digit(byte: u8) -> Option<u8>
+    ensures { IfSome result (λ value. value < 16) }
+{
+    match byte {
+        b'0'..=b'9' => Some(byte - b'0'),
+        b'a'..=b'f' => Some(byte - b'a' + 10),
+        _ => None,
+    }
 }
 
 /// `b`, `w` or `d`.

@@ -51,16 +51,17 @@ fn shifted(op: ShiftOp, w: Width, a: u32, n: u32, f: Flags) -> (u32, bool)
     }
 }
 
-// SHL by `n` places: the value and CF.
+// SHL by `n` places, above 0: the value and CF.
 fn shl(w: Width, a: u32, n: u32, f: Flags) -> (u32, bool)
     requires a_fits { a < modulus_of w }
+    requires above_zero { 0 < n }
     requires at_most { n < 32 }
     ensures value { result.0 ≡ shifted_of Shl w a n f }
     ensures out { result.1 ≡ shifted_out Shl w a n f }
     ensures fits { result.0 < modulus_of w }
 {
     let r = ((u64::from(a) << n) % modulus(w)) as u32;
-    let out = n < bits(w) && n > 0 && is_set(a, bits(w) - n);
+    let out = n < bits(w) && is_set(a, bits(w) - n);
     (r, out)
 }
 

@@ -1,0 +1,404 @@
+#!/usr/bin/env python3
+"""Runs random straight-line programs on the user machine and on this processor, and compares the memory that they leave.
+
+    machine.py PROBE FOLDER
+
+Each program sets registers and flags, runs some two hundred data instructions with operands in registers and in its data,
+stores registers and flags, writes its data to standard output and ends. What the Intel manual leaves undefined is hidden
+after each instruction: such flags are cleared, and such a register is set anew. The programs are from a fixed seed.
+"""
+import os, random, subprocess, sys
+
+PROGRAMS, INSTRUCTIONS = 300, 200
+DATA, STACK, SAVED, SIZE = 0x0804C000, 0x0804C400, 0x0804C800, 0x828
+CF, PF, AF, ZF, SF, DF, OF, ID = 0x1, 0x4, 0x10, 0x40, 0x80, 0x400, 0x800, 0x200000
+DWORDS = "eax ecx edx ebx esp ebp esi edi".split()
+REGISTERS = {8: "al cl dl bl ah ch dh bh".split(), 16: [name[1:] for name in DWORDS], 32: DWORDS}
+SIZES = {8: "byte ptr ", 16: "word ptr ", 32: "dword ptr "}
+CONDITIONS = "o no b ae e ne be a s ns p np l ge le g".split()
+
+
+class Program:
+    def __init__(self, seed):
+        self.rng, self.lines, self.esp, self.labels = random.Random(seed), [], None, 0
+        for name in DWORDS:
+            self.add(f"mov {name}, {self.number(32):#x}")
+        self.popfd()
+        for _ in range(INSTRUCTIONS):
+            self.rng.choice(KINDS)(self)
+        for i, name in enumerate(DWORDS):
+            self.add(f"mov dword ptr [{SAVED + 4 * i:#x}], {name}")
+        self.stack()
+        self.add("pushfd", f"pop dword ptr [{SAVED + 32:#x}]")
+        self.add("mov eax, 4", "mov ebx, 1", f"mov ecx, {DATA:#x}", f"mov edx, {SIZE:#x}", "int 0x80")
+        self.add("mov eax, 1", "xor ebx, ebx", "int 0x80")
+
+    def add(self, *lines):
+        self.lines += lines
+
+    def text(self):
+        data = b"".join(self.rng.choice((self.rng.randbytes(16), self.rng.randbytes(1) * 16)) for _ in range(SIZE // 16 + 1))
+        return "\n".join([".intel_syntax noprefix", ".globl _start", "_start:", *self.lines, ".data",
+                          ".byte " + ",".join(map(str, data[:SIZE])), ""])
+
+    # Operands.
+
+    def number(self, width):
+        edge = 1 << self.rng.randrange(width)
+        return self.rng.choice((self.rng.randrange(1 << width), self.rng.randrange(8), edge, edge - 1, -edge, -1)) % (1 << width)
+
+    def width(self, *of):
+        return self.rng.choice(of or (8, 16, 32, 32))
+
+    def register(self, width, but=()):
+        """A register none of whose bits are in those of `but`, which are named as of 32 bits."""
+        names = [name for i, name in enumerate(REGISTERS[width]) if DWORDS[i % 4 if width == 8 else i] not in but]
+        return self.rng.choice(names)
+
+    def written(self, *names):
+        if "esp" in names or "sp" in names:
+            self.esp = None
+
+    def memory(self, width, but=(), size=True):
+        """A place in the data, with registers of the address set to suit."""
+        at, form = DATA + self.rng.randrange(32, 0x3C0), self.rng.randrange(5)
+        base, index = self.register(32, but), self.register(32, (*but, "esp"))
+        factor, displacement = self.rng.choice((1, 2, 4, 8)), self.rng.choice((self.rng.randrange(-128, 128), self.number(32)))
+        text = {0: f"[{at:#x}]", 1: f"[{base}]", 2: f"[{base}{self.signed(displacement)}]"}.get(form)
+        if form == 1:
+            displacement = 0
+        if form >= 3 and base == index:
+            form, text = 2, f"[{base}{self.signed(displacement)}]"
+        if form in (1, 2):
+            self.add(f"mov {base}, {(at - displacement) % 2**32:#x}")
+            self.written(base)
+        if form >= 3:
+            value = self.number(32)
+            self.add(f"mov {index}, {value:#x}")
+            rest = (at - factor * value) % 2**32
+            if form == 3:
+                self.add(f"mov {base}, {(rest - displacement) % 2**32:#x}")
+                self.written(base)
+                text = f"[{base}+{index}*{factor}{self.signed(displacement)}]"
+            else:
+                text = f"[{index}*{factor}{self.signed(rest)}]"
+        return SIZES[width] * size + text
+
+    def signed(self, value):
+        value = (value + 2**31) % 2**32 - 2**31
+        return f"{'+' if value >= 0 else '-'}{abs(value):#x}"
+
+    def place(self, width, but=()):
+        """A register or memory."""
+        if self.rng.random() < .5:
+            return self.memory(width, but)
+        name = self.register(width, but)
+        self.written(name)
+        return name
+
+    def lock(self, place):
+        return "lock " if " ptr " in place and self.rng.random() < .2 else ""
+
+    def stack(self):
+        """Sets ESP where it isn't known to be in the stack."""
+        if self.esp is None or not STACK + 0x80 <= self.esp < STACK + 0x380 or self.rng.random() < .1:
+            self.esp = STACK + self.rng.randrange(0x100, 0x300)
+            self.add(f"mov esp, {self.esp:#x}")
+
+    def hide(self, flags):
+        if flags:
+            self.stack()
+            self.add("pushfd", f"and dword ptr [esp], {~flags % 2**32:#x}", "popfd")
+
+    def label(self):
+        self.labels += 1
+        return f"l{self.labels}"
+
+    # Moves and the stack.
+
+    def mov(self):
+        w = self.width()
+        to = self.place(w)
+        if " ptr " in to or self.rng.random() < .5:
+            self.add(f"mov {to}, {self.rng.choice((self.register(w), hex(self.number(w))))}")
+        else:
+            self.add(f"mov {to}, {self.memory(w, size=True)}")
+
+    def mov_accumulator(self):
+        w, at = self.width(), DATA + self.rng.randrange(0x3F0)
+        pair = [REGISTERS[w][0], f"{SIZES[w]}[{at:#x}]"]
+        self.rng.shuffle(pair)
+        self.add(f"mov {pair[0]}, {pair[1]}")
+
+    def xchg(self):
+        w = self.width()
+        place, other = self.place(w), self.register(w)
+        self.written(other)
+        self.add(f"{self.lock(place)}xchg {place}, {other}")
+
+    def lea(self):
+        w = self.width(16, 32)
+        source, to = self.memory(w, size=False), self.register(w)
+        self.written(to)
+        self.add(f"lea {to}, {source}")
+
+    def movx(self):
+        w, to = self.rng.choice(((8, 16), (8, 32), (16, 32)))
+        source, name = self.place(w), self.register(to)
+        self.written(name)
+        self.add(f"{self.rng.choice(('movzx', 'movsx'))} {name}, {source}")
+
+    def cmov(self):
+        w = self.width(16, 32)
+        source, to = self.place(w), self.register(w)
+        self.written(to)
+        self.add(f"cmov{self.rng.choice(CONDITIONS)} {to}, {source}")
+
+    def set(self):
+        self.add(f"set{self.rng.choice(CONDITIONS)} {self.place(8)}")
+
+    def extend(self):
+        self.add(self.rng.choice(("cbw", "cwde", "cwd", "cdq")))
+
+    def bswap(self):
+        to = self.register(32)
+        self.written(to)
+        self.add(f"bswap {to}")
+
+    def push(self):
+        source = self.rng.choice((self.register(32), "esp", hex(self.number(32)), self.memory(32)))
+        self.stack()
+        if source.startswith("dword") and "esp" in source or self.rng.random() < .1:
+            source = f"dword ptr [esp+{self.rng.randrange(0x40):#x}]"
+        self.add(f"push {source}")
+        self.esp -= 4
+
+    def pop(self):
+        to = self.rng.choice((self.register(32), "esp", self.memory(32)))
+        self.stack()
+        if to.startswith("dword") and "esp" in to or self.rng.random() < .1:
+            to = f"dword ptr [esp+{self.rng.randrange(0x40):#x}]"
+        self.add(f"pop {to}")
+        self.esp = None if to == "esp" else self.esp + 4
+
+    def pushad(self):
+        self.stack()
+        self.add("pushad")
+        self.esp -= 32
+
+    def popad(self):
+        self.stack()
+        self.add("popad")
+        self.esp += 32
+
+    def leave(self):
+        self.esp = STACK + self.rng.randrange(0x100, 0x300)
+        self.add(f"mov ebp, {self.esp:#x}", "leave")
+        self.esp += 4
+
+    def pushfd(self):
+        self.stack()
+        self.add("pushfd")
+        self.esp -= 4
+
+    def popfd(self):
+        self.stack()
+        self.add(f"push {self.rng.getrandbits(32) & (CF | PF | AF | ZF | SF | DF | OF | ID | 0x322A):#x}", "popfd")
+
+    def ah(self):
+        self.add(self.rng.choice(("lahf", "sahf")))
+
+    def flag(self):
+        self.add(self.rng.choice(("cmc", "clc", "stc", "cld", "std")))
+
+    def idle(self):
+        self.add(self.rng.choice(("nop", "pause", "endbr32", "nop dword ptr [eax+eax*1+0x0]", "nop word ptr [ebx-0x1]")))
+
+    def xlat(self):
+        self.add(f"mov ebx, {DATA + self.rng.randrange(0x2F0):#x}", "xlat")
+
+    # Arithmetic.
+
+    def alu(self):
+        op, w = self.rng.choice("add or adc sbb and sub xor cmp".split()), self.width()
+        to = self.place(w)
+        if " ptr " in to or self.rng.random() < .6:
+            source = self.rng.choice((self.register(w), hex(self.number(w))))
+        else:
+            source = self.memory(w)
+        self.add(f"{'' if op == 'cmp' else self.lock(to)}{op} {to}, {source}")
+        self.hide(AF * (op in ("and", "or", "xor")))
+
+    def test(self):
+        w = self.width()
+        self.add(f"test {self.place(w)}, {self.rng.choice((self.register(w), hex(self.number(w))))}")
+        self.hide(AF)
+
+    def unary(self):
+        to = self.place(self.width())
+        self.add(f"{self.lock(to)}{self.rng.choice(('inc', 'dec', 'not', 'neg'))} {to}")
+
+    def mul(self):
+        self.add(f"{self.rng.choice(('mul', 'imul'))} {self.place(self.width())}")
+        self.hide(SF | ZF | AF | PF)
+
+    def imul(self):
+        w = self.width(16, 32)
+        source, to = self.place(w), self.register(w)
+        self.written(to)
+        immediate = self.rng.choice(("", f", {self.number(w):#x}", f", {self.rng.randrange(-128, 128)}"))
+        self.add(f"imul {to}, {source}{immediate}")
+        self.hide(SF | ZF | AF | PF)
+
+    def div(self):
+        """A quotient is chosen, and then the dividend, so that none traps."""
+        w, signed = self.width(8, 16, 32), self.rng.random() < .5
+        half = 1 << w - 1
+        by, quotient = self.number(w) or 1, self.number(w)
+        if signed:
+            by, quotient = (by + half) % (2 * half) - half, (quotient + half) % (2 * half) - half
+        sign = -1 if (by < 0) != (quotient < 0) else 1
+        dividend = quotient * by + sign * self.rng.randrange(abs(by)) * (signed or 1)
+        place = self.place(w, ("eax", "edx"))
+        if w == 8:
+            self.add(f"mov ax, {dividend % 2**16:#x}")
+        else:
+            self.add(f"mov {REGISTERS[w][0]}, {dividend % 2**w:#x}", f"mov {REGISTERS[w][2]}, {(dividend >> w) % 2**w:#x}")
+        self.add(f"mov {place}, {by % 2**w:#x}", f"{'idiv' if signed else 'div'} {place}")
+        self.hide(CF | OF | SF | ZF | AF | PF)
+
+    def count(self):
+        """How far a shift goes, as text and modulo 32; CL is set."""
+        count = self.rng.choice((self.rng.randrange(256), self.rng.randrange(33), 1))
+        if self.rng.random() < .5:
+            return f"{count}", count % 32
+        self.add(f"mov cl, {count}")
+        return "cl", count % 32
+
+    def shift(self):
+        op, w = self.rng.choice("rol ror rcl rcr shl shr sar".split()), self.width()
+        place = self.place(w, ("ecx",))
+        text, n = self.count()
+        self.add(f"{op} {place}, {text}")
+        undefined = (AF if op[0] == "s" else 0) | (OF if n != 1 else 0) | (CF if n >= w and op in ("shl", "shr") else 0)
+        self.hide(undefined if n else 0)
+
+    def double(self):
+        place, source = self.place(32, ("ecx",)), self.register(32)
+        text, n = self.count()
+        self.add(f"{self.rng.choice(('shld', 'shrd'))} {place}, {source}, {text}")
+        self.hide((AF | (OF if n != 1 else 0)) if n else 0)
+
+    def bit(self):
+        w, op = self.width(16, 32), self.rng.choice(("bt", "bts", "btr", "btc"))
+        place = self.place(w)
+        index = self.rng.randrange(256) if " ptr " in place or self.rng.random() < .5 else self.register(w)
+        self.add(f"{'' if op == 'bt' else self.lock(place)}{op} {place}, {index}")
+        self.hide(OF | SF | AF | PF)
+
+    def scan(self):
+        """The source is 0, or has a bit set; for 0 the destination is undefined."""
+        w = self.width(16, 32)
+        place, to = self.place(w), self.register(w)
+        value = self.number(w) * (self.rng.random() < .7)
+        self.written(to)
+        self.add(f"mov {place}, {value:#x}", f"{self.rng.choice(('bsf', 'bsr'))} {to}, {place}")
+        if value == 0:
+            self.add(f"mov {to}, {self.number(w):#x}")
+        self.hide(CF | OF | SF | AF | PF)
+
+    def cmpxchg(self):
+        w = self.width()
+        place = self.place(w, ("eax",))
+        if self.rng.random() < .5:
+            self.add(f"mov {REGISTERS[w][0]}, {place}")
+        self.add(f"{self.lock(place)}cmpxchg {place}, {self.register(w)}")
+
+    def xadd(self):
+        w = self.width()
+        place, other = self.place(w), self.register(w)
+        self.written(other)
+        self.add(f"{self.lock(place)}xadd {place}, {other}")
+
+    # Strings and transfers.
+
+    def string(self):
+        op, w = self.rng.choice(("movs", "cmps", "stos", "lods", "scas")), self.width(8, 16, 32)
+        rep = self.rng.choice(("", "repe ", "repne ") if op in ("cmps", "scas") else ("", "rep "))
+        down = self.rng.random() < .5
+        for name in ("esi", "edi"):
+            self.add(f"mov {name}, {DATA + self.rng.randrange(0x80, 0x100) + 0x200 * down:#x}")
+        if op == "cmps" and self.rng.random() < .3:
+            self.add("mov esi, edi")
+        if op == "scas" and self.rng.random() < .7:
+            self.add("mov eax, dword ptr [edi]")
+        if rep or self.rng.random() < .5:
+            self.add(f"mov ecx, {self.rng.choice((0, 1, self.rng.randrange(24)))}")
+        self.add("std" if down else "cld", rep + op + {8: "b", 16: "w", 32: "d"}[w])
+
+    def branch(self):
+        """A forward jump over one instruction, which may be taken."""
+        label = self.label()
+        jump = self.rng.choice([f"j{c}" for c in CONDITIONS] + ["loop", "loope", "loopne", "jecxz", "jmp"])
+        if jump[0] == "l" or jump == "jecxz":
+            self.add(f"mov ecx, {self.rng.choice((0, 1, 2, self.number(32)))}")
+        self.add(f"{jump} {label}", f"lea {self.register(32, ('esp',))}, [eax+ecx*2]", f"{label}:")
+
+    def call(self):
+        """A call, by each kind of operand, of code that is reached by it alone."""
+        to, over, slot = self.label(), self.label(), DATA + self.rng.randrange(0x3F0)
+        self.stack()
+        drop = self.rng.choice(("", "", " 4", " 0x10"))
+        name = self.register(32, ("esp",))
+        made = self.rng.choice(("near", "register", "memory", "ret"))
+        if made == "register":
+            self.add(f"mov {name}, offset {to}")
+        if made == "memory":
+            self.add(f"mov dword ptr [{slot:#x}], offset {to}")
+        if made == "ret":
+            self.add(f"push offset {over}", f"push offset {to}", "ret")
+        else:
+            target = {"near": to, "register": name, "memory": f"dword ptr [{slot:#x}]"}[made]
+            self.add(f"call {target}", f"jmp {over}")
+        self.add(f"{to}:", "lea eax, [eax+ebx*4+0x1]", f"ret{drop}", f"{over}:")
+        self.esp += int(drop or "0", 16)
+
+
+KINDS = [kind for name, kind in vars(Program).items() if callable(kind) and name not in (
+    "__init__", "add", "text", "number", "width", "register", "written", "memory", "signed", "place", "lock", "stack", "hide",
+    "label", "count")]
+
+
+def build(folder, seed):
+    """Assembles and links a program; its file."""
+    source, unlinked, file = (os.path.join(folder, f"{seed}{end}") for end in (".s", ".o", ""))
+    with open(source, "w") as out:
+        out.write(Program(seed).text())
+    subprocess.run(["as", "--32", "-o", unlinked, source], check=True)
+    subprocess.run(["ld", "-m", "elf_i386", "-s", f"-Tdata={DATA:#x}", "-o", file, unlinked], check=True)
+    return file
+
+
+def main():
+    program, folder = sys.argv[1:]
+    files = [build(folder, seed) for seed in range(PROGRAMS)]
+    wanted = [subprocess.run([file], capture_output=True).stdout.hex() for file in files]
+    asked = "".join(f"machine {open(file, 'rb').read().hex()}\n" for file in files)
+    given = subprocess.run([program], input=asked, capture_output=True, check=True, text=True).stdout.splitlines()
+    bad = 0
+    for seed, (want, answer) in enumerate(zip(wanted, given, strict=True)):
+        outcome, at, found = (answer.split(" ") + ["", "", ""])[:3]
+        if len(want) != 2 * SIZE:
+            sys.exit(f"checks/machine: program {seed} ended early on the processor")
+        if (outcome, found) != ("gone", want):
+            place = next((i for i in range(0, len(want), 2) if want[i:i + 2] != found[i:i + 2]), 0)
+            print(f"program {seed}: {outcome} at {at}; memory differs from {DATA + place // 2:#x} on: "
+                  f"the processor {want[place:place + 16]}, the machine {found[place:place + 16]}")
+            bad += 1
+    if bad:
+        sys.exit(f"checks/machine: {bad} of {PROGRAMS} programs end differently")
+    print(f"checks/machine: {PROGRAMS} programs of {INSTRUCTIONS} instructions leave the memory that the processor leaves")
+
+
+if __name__ == "__main__":
+    main()
