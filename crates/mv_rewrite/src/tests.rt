@@ -79,6 +79,29 @@ fn places_no_site_without_a_piece(rt: HostRuntime) {
     assert_eq!(rt; mapped(rt.alloc(), &file, 0x0804_8076), Some(0x0010_0020));
 }
 
+/// The file with this code in place of its own.
+fn with_code<const K: usize>(code: [u8; K]) -> [u8; 128]
+    requires { K ≤ 12 }
+{
+    let mut file = FILE;
+    for (place, byte) in file[116..].iter_mut().zip(code) {
+        *place = byte;
+    }
+    edited(file, [(68, K as u8), (72, K as u8)])
+}
+
+#[test]
+fn decodes_at_every_byte(rt: HostRuntime) {
+    // `mov eax,[esp+4]`, `push eax`, and from each byte between them an instruction too.
+    let file = with_code([0x8B, 0x44, 0x24, 0x04, 0x50]);
+    assert_eq!(rt; counts(rt.alloc(), &file), Some((5, 1)));
+    // F3 is no prefix of `bsf`; `mov`'s last byte of code is missing.
+    let file = with_code([0xF3, 0x0F, 0xBC, 0xC1, 0xF4]);
+    assert_eq!(rt; counts(rt.alloc(), &file), Some((2, 1)));
+    let file = with_code([0xB8, 0x01]);
+    assert_eq!(rt; counts(rt.alloc(), &file), Some((0, 1)));
+}
+
 #[test]
 fn joins_segments_that_touch(rt: HostRuntime) {
     let one = counts(rt.alloc(), &FILE);

@@ -1,5 +1,6 @@
 -- The first state of a machine. This project's own.
 use Rattle.std.specs.Prelude.{◌≡◌, ℕ, ◌≤◌, false, true, List, [], ◌∷◌, length, Result, Ok, Err}
+use Rattle.mv_base.specs.Memory.{joined}
 use Rattle.x86_insn.specs.declared.flags.Flags.{Flags}
 use Rattle.x86_insn.specs.State.{State}
 use Rattle.elf32_read.specs.Fields.{entry_at}
@@ -7,7 +8,7 @@ use Rattle.elf32_read.specs.Load.{load}
 use Rattle.syscall_log.specs.declared.log.Log.{Log}
 use Rattle.syscall_log.specs.Meaning.{answers_of}
 use Rattle.proc_image.specs.Loading.{IsTooLarge, loaded_size}
-use Rattle.proc_image.specs.Stack.{stack_pointer, stack_taken, with_stack}
+use Rattle.proc_image.specs.Stack.{stack_pointer, stack_taken, stack_cells}
 use Rattle.x86_machine.specs.Stepping.{state_of}
 use Rattle.x86_machine.specs.declared.machine.Machine.{Machine}
 use Rattle.x86_machine.specs.declared.starting.StartFault.{StartFault}
@@ -22,7 +23,7 @@ abbrev pub first_state : List ℕ → Log → State
 first_state b log = record {
   core = record { regs = 0 ∷ 0 ∷ 0 ∷ 0 ∷ stack_pointer log.args ∷ 0 ∷ 0 ∷ 0 ∷ []; flags = no_flags };
   eip = entry_at b;
-  memory = with_stack (load b) log.args;
+  memory = joined (load b) (stack_cells log.args);
   answers = answers_of log.answers;
   calls = [];
 }
