@@ -13,7 +13,11 @@ pub fn prefix(insn: &Insn) -> &'static str {
         | Insn::Cmpxchg { lock: true, .. }
         | Insn::Xadd { lock: true, .. } => "lock ",
         Insn::Str { rep: Rep::F2, .. } => "repne ",
-        Insn::Str { op: StrOp::Cmps | StrOp::Scas, rep: Rep::F3, .. } => "repe ",
+        Insn::Str {
+            op: StrOp::Cmps | StrOp::Scas,
+            rep: Rep::F3,
+            ..
+        } => "repe ",
         Insn::Str { rep: Rep::F3, .. } => "rep ",
         _ => "",
     }

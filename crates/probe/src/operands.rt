@@ -19,17 +19,55 @@ type Operands = [Operand; 3];
 /// The operands of an instruction, in the SDM's order. A jump's is the distance from the instruction's end.
 pub fn operands(insn: &Insn) -> Operands {
     match insn {
-        Insn::Alu { width, dst, src, .. }
+        Insn::Alu {
+            width,
+            dst,
+            src,
+            ..
+        }
         | Insn::Test { width, dst, src }
         | Insn::Mov { width, dst, src } => two(rm(*width, *dst), source(*width, *src)),
-        Insn::Bit { width, dst, index, .. } => two(rm(*width, *dst), source(*width, *index)),
-        Insn::Xchg { width, dst, reg, .. } => two(rm(*width, *dst), Operand::Reg(*width, *reg)),
-        Insn::Cmpxchg { width, dst, src, .. } | Insn::Xadd { width, dst, src, .. } => {
-            two(rm(*width, *dst), Operand::Reg(*width, *src))
+        Insn::Bit {
+            width,
+            dst,
+            index,
+            ..
+        } => two(rm(*width, *dst), source(*width, *index)),
+        Insn::Xchg {
+            width,
+            dst,
+            reg,
+            ..
+        } => two(rm(*width, *dst), Operand::Reg(*width, *reg)),
+        Insn::Cmpxchg {
+            width,
+            dst,
+            src,
+            ..
         }
-        Insn::Shift { width, dst, count, .. } => two(rm(*width, *dst), how_far(*count)),
-        Insn::Double { dst, src, count, .. } => {
-            [rm(Width::D, *dst), Operand::Reg(Width::D, *src), how_far(*count)]
+        | Insn::Xadd {
+            width,
+            dst,
+            src,
+            ..
+        } => { two(rm(*width, *dst), Operand::Reg(*width, *src)) }
+        Insn::Shift {
+            width,
+            dst,
+            count,
+            ..
+        } => two(rm(*width, *dst), how_far(*count)),
+        Insn::Double {
+            dst,
+            src,
+            count,
+            ..
+        } => {
+            [
+                rm(Width::D, *dst),
+                Operand::Reg(Width::D, *src),
+                how_far(*count),
+            ]
         }
         Insn::Bump { width, dst, .. } | Insn::Unary { width, dst, .. } => one(rm(*width, *dst)),
         Insn::Mul { width, src, .. } | Insn::Div { width, src, .. } => one(rm(*width, *src)),
@@ -42,11 +80,31 @@ pub fn operands(insn: &Insn) -> Operands {
 fn into_register(insn: &Insn) -> Operands {
     match insn {
         Insn::Lea { width, dst, mem } => two(Operand::Reg(*width, *dst), Operand::Address(*mem)),
-        Insn::Movx { from, to, dst, src, .. } => two(Operand::Reg(*to, *dst), rm(*from, *src)),
-        Insn::Scan { width, dst, src, .. } | Insn::Cmov { width, dst, src, .. } => {
-            two(Operand::Reg(*width, *dst), rm(*width, *src))
+        Insn::Movx {
+            from,
+            to,
+            dst,
+            src,
+            ..
+        } => two(Operand::Reg(*to, *dst), rm(*from, *src)),
+        Insn::Scan {
+            width,
+            dst,
+            src,
+            ..
         }
-        Insn::Imul { width, dst, src, imm } => {
+        | Insn::Cmov {
+            width,
+            dst,
+            src,
+            ..
+        } => { two(Operand::Reg(*width, *dst), rm(*width, *src)) }
+        Insn::Imul {
+            width,
+            dst,
+            src,
+            imm,
+        } => {
             let third = match imm {
                 Some(value) => Operand::Number(*value),
                 None => Operand::Absent,
@@ -123,7 +181,12 @@ fn write_address<W: Write>(mem: Mem, out: &mut W) -> io::Result<()> {
         write!(out, "{}", register(Width::D, base))?;
     }
     if let Some((index, factor)) = mem.index {
-        write!(out, "{}{}*{factor}", plus(has_base), register(Width::D, index))?;
+        write!(
+            out,
+            "{}{}*{factor}",
+            plus(has_base),
+            register(Width::D, index)
+        )?;
     }
     if mem.disp != 0 || !(has_base || has_index) {
         write!(out, "{}{:#x}", plus(has_base || has_index), mem.disp)?;

@@ -12,6 +12,7 @@ use superset::sites;
 
 /// Where the run begins, and how many bytes it has at most.
 const LO: u32 = 0x0804_8000;
+
 const MOST_BYTES: usize = 0x100_0000;
 
 /// The answer to the words after `sites`.
