@@ -1,6 +1,6 @@
 //! `sites TIMES HEX`: how many sites a run of these bytes has, looked for so many times.
 
-ghost use Rattle.std.specs.Prelude.{◌≡◌, ◌+◌, ◌<◌, ◌≤◌, length, IfSome};
+ghost use Rattle.std.specs.Prelude.{◌≡◌, ◌↔◌, ◌+◌, ◌<◌, ◌≤◌, length, IsSome, IfSome};
 
 use crate::words::{bytes, number};
 use elf32_read::Run;
@@ -44,7 +44,8 @@ fn found(alloc: Global, times: u32, run: Run) -> Result<usize, NoMemory>
 
 // The run of these bytes; `None` where they are none or too many.
 fn run_of(of: Vec<u8>) -> Option<Run>
-    ensures { IfSome result (λ run. (run.lo ≡ 0x08048000) × (0 < length run.bytes) × (length run.bytes ≤ 0x1000000)) }
+    ensures some { IsSome result ↔ ((0 < length of.items) × (length of.items ≤ 0x1000000)) }
+    ensures run { IfSome result (λ run. (run.lo ≡ 0x08048000) × (run.bytes ≡ of.items)) }
 {
     if of.is_empty() || of.len() > MOST_BYTES {
         return None;

@@ -8,7 +8,7 @@
 //! The answer is the value and the flags; two values for `mul`, `imul` (low and high half) and `div`, `idiv` (quotient and
 //! remainder); the flags alone for `test`; `none` and the flags for a scan of 0; `trap` for a division that traps.
 
-ghost use Rattle.std.specs.Prelude.{◌<◌, IsTrue};
+ghost use Rattle.std.specs.Prelude.{◌<◌, ◌↔◌, IsTrue};
 ghost use Rattle.x86_insn.specs.Values.{modulus};
 
 use crate::operations::{Operation, named};
@@ -56,7 +56,7 @@ fn asked(rest: &mut Split<'_, char>) -> Option<Outcome> {
 
 // `n` is below 2 to the width.
 fn fits(w: Width, n: u32) -> bool
-    ensures { IsTrue result → n < modulus w }
+    ensures { IsTrue result ↔ n < modulus w }
 {
     match w {
         Width::B => n < 0x100,

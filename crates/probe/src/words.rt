@@ -1,6 +1,6 @@
 //! Words of a command as numbers, bytes, widths and flags.
 
-ghost use Rattle.std.specs.Prelude.{◌<◌, IfSome};
+ghost use Rattle.std.specs.Prelude.{◌≡◌, ◌≤◌, ◌<◌, ◌+◌, ◌-◌, Some, IfSome};
 
 use std::alloc::Global;
 use std::io;
@@ -28,7 +28,9 @@ pub fn bytes(alloc: Global, word: &str) -> io::Result<Option<Vec<u8>>> {
 
 // The value of a hexadecimal digit.
 fn digit(byte: u8) -> Option<u8>
-    ensures { IfSome result (λ value. value < 16) }
+    ensures decimal { 0x30 ≤ byte → byte ≤ 0x39 → result ≡ Some (byte - 0x30) }
+    ensures letter { 0x61 ≤ byte → byte ≤ 0x66 → result ≡ Some (byte - 0x61 + 10) }
+    ensures fits { IfSome result (λ value. value < 16) }
 {
     match byte {
         b'0'..=b'9' => Some(byte - b'0'),
