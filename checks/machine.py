@@ -4,13 +4,15 @@
     machine.py PROBE FOLDER
 
 Each program sets registers and flags, runs some two hundred data instructions with operands in registers and in its data,
-stores registers and flags, writes its data to standard output and ends. What the Intel manual leaves undefined is hidden
-after each instruction: such flags are cleared, and such a register is set anew. The programs are from a fixed seed.
+stores registers and flags after each, writes its data and what it stored to standard output and ends. What the Intel manual
+leaves undefined is hidden after each instruction: such flags are cleared, and such a register is set anew. The programs are
+from a fixed seed.
 """
 import os, random, subprocess, sys
 
 PROGRAMS, INSTRUCTIONS = 300, 200
-DATA, STACK, SAVED, SIZE = 0x0804C000, 0x0804C400, 0x0804C800, 0x828
+DATA, STACK, SAVED, RECORD = 0x08060000, 0x08060400, 0x08060800, 36
+SIZE = SAVED - DATA + RECORD * INSTRUCTIONS
 CF, PF, AF, ZF, SF, DF, OF, ID = 0x1, 0x4, 0x10, 0x40, 0x80, 0x400, 0x800, 0x200000
 DWORDS = "eax ecx edx ebx esp ebp esi edi".split()
 REGISTERS = {8: "al cl dl bl ah ch dh bh".split(), 16: [name[1:] for name in DWORDS], 32: DWORDS}
@@ -20,26 +22,30 @@ CONDITIONS = "o no b ae e ne be a s ns p np l ge le g".split()
 
 class Program:
     def __init__(self, seed):
-        self.rng, self.lines, self.esp, self.labels = random.Random(seed), [], None, 0
+        self.rng, self.lines, self.made, self.esp, self.labels = random.Random(seed), [], [], None, 0
         for name in DWORDS:
             self.add(f"mov {name}, {self.number(32):#x}")
         self.popfd()
-        for _ in range(INSTRUCTIONS):
+        for i in range(INSTRUCTIONS):
+            begun = len(self.lines)
             self.rng.choice(KINDS)(self)
-        for i, name in enumerate(DWORDS):
-            self.add(f"mov dword ptr [{SAVED + 4 * i:#x}], {name}")
-        self.stack()
-        self.add("pushfd", f"pop dword ptr [{SAVED + 32:#x}]")
+            self.made.append("; ".join(self.lines[begun:]))
+            self.store(SAVED + RECORD * i)
         self.add("mov eax, 4", "mov ebx, 1", f"mov ecx, {DATA:#x}", f"mov edx, {SIZE:#x}", "int 0x80")
         self.add("mov eax, 1", "xor ebx, ebx", "int 0x80")
 
     def add(self, *lines):
         self.lines += lines
 
+    def store(self, at):
+        """Stores registers and flags, and changes none."""
+        self.add(*(f"mov dword ptr [{at + 4 * i:#x}], {name}" for i, name in enumerate(DWORDS)))
+        self.add(f"mov esp, {at + RECORD:#x}", "pushfd", f"mov esp, dword ptr [{at + 4 * DWORDS.index('esp'):#x}]")
+
     def text(self):
-        data = b"".join(self.rng.choice((self.rng.randbytes(16), self.rng.randbytes(1) * 16)) for _ in range(SIZE // 16 + 1))
+        data = b"".join(self.rng.choice((self.rng.randbytes(16), self.rng.randbytes(1) * 16)) for _ in range(0x80))
         return "\n".join([".intel_syntax noprefix", ".globl _start", "_start:", *self.lines, ".data",
-                          ".byte " + ",".join(map(str, data[:SIZE])), ""])
+                          ".byte " + ",".join(map(str, data)), f".space {SIZE - len(data)}", ""])
 
     # Operands.
 
@@ -365,7 +371,7 @@ class Program:
 
 
 KINDS = [kind for name, kind in vars(Program).items() if callable(kind) and name not in (
-    "__init__", "add", "text", "number", "width", "register", "written", "memory", "signed", "place", "lock", "stack", "hide",
+    "__init__", "add", "store", "text", "number", "width", "register", "written", "memory", "signed", "place", "lock", "stack", "hide",
     "label", "count")]
 
 
@@ -377,6 +383,18 @@ def build(folder, seed):
     subprocess.run(["as", "--32", "-o", unlinked, source], check=True)
     subprocess.run(["ld", "-m", "elf_i386", "-s", f"-Tdata={DATA:#x}", "-o", file, unlinked], check=True)
     return file
+
+
+def difference(seed, want, found):
+    """The first instruction after which registers or flags differ, or the first byte of the data."""
+    places = range(2 * (SAVED - DATA), len(want), 8)
+    place = next((i for i in places if want[i:i + 8] != found[i:i + 8]), None)
+    if place is None:
+        place = next((i for i in range(0, len(want), 2) if want[i:i + 2] != found[i:i + 2]), 0)
+        return f"the data differ at {DATA + place // 2:#x}"
+    made, word = divmod(place // 2 - (SAVED - DATA), RECORD)
+    return (f"{(*DWORDS, 'flags')[word // 4]} is {bytes.fromhex(want[place:place + 8])[::-1].hex()} on the processor, "
+            f"{bytes.fromhex(found[place:place + 8])[::-1].hex()} on the machine after: {Program(seed).made[made]}")
 
 
 def main():
@@ -391,9 +409,7 @@ def main():
         if len(want) != 2 * SIZE:
             sys.exit(f"checks/machine: program {seed} ended early on the processor")
         if (outcome, found) != ("gone", want):
-            place = next((i for i in range(0, len(want), 2) if want[i:i + 2] != found[i:i + 2]), 0)
-            print(f"program {seed}: {outcome} at {at}; memory differs from {DATA + place // 2:#x} on: "
-                  f"the processor {want[place:place + 16]}, the machine {found[place:place + 16]}")
+            print(f"program {seed}: {outcome} at {at}; {difference(seed, want, found)}")
             bad += 1
     if bad:
         sys.exit(f"checks/machine: {bad} of {PROGRAMS} programs end differently")
