@@ -409,7 +409,7 @@ def main():
         if len(want) != 2 * SIZE:
             sys.exit(f"checks/machine: program {seed} ended early on the processor")
         if (outcome, found) != ("gone", want):
-            print(f"program {seed}: {outcome} at {at}; {difference(seed, want, found)}")
+            print(f"program {seed}:", difference(seed, want, found) if outcome == "gone" else f"{outcome} at {at}")
             bad += 1
     if bad:
         sys.exit(f"checks/machine: {bad} of {PROGRAMS} programs end differently")
