@@ -1,12 +1,9 @@
 -- Bytes read and written one after the other. What is left of an access does the same as all of it.
-use mathlib.Core.Path.{fun_ext}
-use Rattle.std.proofs.Common.{◌≡◌, ℕ, zero, suc, ◌+◌, ◌-◌, ◌^◌, ◌<◌, ◌≤◌, Bool, true, false, List, [], ◌∷◌, ◌++◌, length, take, drop, set, get_or, slice_index, Option, Some, None, nat_lt, if◌then◌else◌, refl, sym, ap, ap₂, ◌∙◌, arith, add-one, append_assoc, length-drop}
+use Rattle.std.proofs.Common.{◌≡◌, ℕ, suc, ◌+◌, ◌-◌, ◌^◌, ◌<◌, ◌≤◌, List, [], ◌∷◌, ◌++◌, length, take, drop, set, slice_index, sym, ap, ◌∙◌, arith, add-one, append_assoc, length-drop}
 use Rattle.std.proofs.Math.Seq.{take-suc-set, drop-cons}
 use Rattle.std.proofs.Math.ListN.{drop_of_length-le}
-use Rattle.std.proofs.lemmas.Bool.Decides.{nat_tests}
-use Rattle.std.specs.Option.{option_map}
 use Rattle.std.proofs.lemmas.List.{append-nil, take_all}
-use Rattle.mv_base.specs.Memory.{Memory, address_after, distance, with_byte, byte_of, bytes_at, put}
+use Rattle.mv_base.specs.Memory.{Memory, address_after, byte_of, bytes_at, put}
 use Rattle.proc_image.specs.Laws.{put-append}
 use Rattle.proc_image.proofs.Effecting.{put-none}
 use Rattle.proc_image.proofs.Reading.{bytes_at-next, bytes_at-none}

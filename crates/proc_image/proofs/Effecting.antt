@@ -1,10 +1,8 @@
 -- Why an effect is not refused, and what it makes of memory.
 use mathlib.Core.Path.{fun_ext}
-use Rattle.std.proofs.Common.{◌≡◌, ℕ, zero, suc, ◌+◌, ◌-◌, ◌%◌, ◌/◌, ◌^◌, ◌<◌, ◌≤◌, ◌==◌, Bool, true, false, not, ◌||◌, List, [], ◌∷◌, length, take, get_or, slice_index, Option, Some, None, is_some, nat_lt, if◌then◌else◌, refl, sym, ap, ap₂, ◌∙◌, arith, add-one, add-suc}
+use Rattle.std.proofs.Common.{◌≡◌, ℕ, zero, suc, ◌+◌, ◌-◌, ◌%◌, ◌/◌, ◌^◌, ◌<◌, ◌≤◌, ◌==◌, Bool, true, false, not, ◌||◌, List, [], length, get_or, slice_index, Option, Some, None, is_some, nat_lt, if◌then◌else◌, refl, sym, ap, ap₂, ◌∙◌, arith, add-suc}
 use Rattle.std.specs.Option.{option_map}
 use Rattle.std.proofs.lemmas.Bool.Decides.{nat_tests}
-use Rattle.std.proofs.lemmas.List.{length-take-le}
-use Rattle.std.proofs.Math.Seq.{take-suc}
 use Rattle.std.proofs.lemmas.Option.{none-some}
 use Rattle.mv_base.specs.Memory.{Cell, Memory, within, cell_is, is_mapped, is_executable, address_after, first_failing, read_fault, write_fault, put, distance, with_byte}
 use Rattle.mv_base.specs.Effects.{Mode, Read, Write, Exec, Executable, WriteAt, MapAt, UnmapAt, makes_code, refused_access, refusal_of, applied, is_write_mode, is_exec_mode}
@@ -12,7 +10,6 @@ use Rattle.proc_image.specs.declared.memory.Memory.{Memory as Pages}
 use Rattle.proc_image.specs.Counting.{some_below}
 use Rattle.proc_image.specs.Mapping.{filled}
 use Rattle.proc_image.specs.Paged.{Page, page_of, cells, with_cell}
-use Rattle.proc_image.specs.Laws.{put-append}
 use Rattle.proc_image.proofs.Counts.{some-zero, some-same, some-none}
 use Rattle.proc_image.proofs.Fills.{inside, is_above, within-more}
 use Rattle.proc_image.proofs.Pages.{cells-page}

@@ -1,5 +1,5 @@
 -- The bounds that a log keeps. This project's own.
-use Rattle.std.specs.Prelude.{◌≡◌, ◌≢◌, ℕ, zero, suc, ◌+◌, ◌<◌, ◌≤◌, List, [], ◌∷◌, length, map, sum_by, slice_index}
+use Rattle.std.specs.Prelude.{◌≡◌, ◌≢◌, ℕ, zero, suc, ◌+◌, ◌<◌, ◌≤◌, List, [], ◌∷◌, length, map, sum_by, slice_index, slice_index_or}
 use Rattle.std.specs.List.{All, AllByRecursion, AllByRecursion-prop}
 use Rattle.std.proofs.Common.{arith}
 use Rattle.std.proofs.Props.{props}
@@ -44,6 +44,12 @@ pub All-effects : (es : List Change) → AllByRecursion IsEffect (map effect_of 
 All-effects [] all k d below = absurd (omega arith)
 All-effects (e ∷ es) all zero d below = all.0
 All-effects (e ∷ es) all (suc k) d below = All-effects es all.1 k d (omega arith)
+
+-- each answer of a log keeps its bounds
+pub IsAnswer-at : (answers : List Reply) (i : ℕ) (d : Reply) → AreAnswers answers → i < length answers → IsAnswer (answer_of (slice_index_or answers i d))
+IsAnswer-at [] i d keep below = absurd (omega arith)
+IsAnswer-at (a ∷ rest) zero d keep below = keep.0
+IsAnswer-at (a ∷ rest) (suc i) d keep below = IsAnswer-at rest i d keep.2 (omega arith)
 
 -- two proofs that an effect keeps its bounds are equal
 IsEffect-prop : (e : Effect) → IsProp (IsEffect e)

@@ -3,14 +3,14 @@
 -- write, or stops. So it reaches memory in no other way, and the instruction pointer is not told to it. An ask (the type
 -- stands in src/) has bytes to read at a place, a stop, or the end: a new core, at most one write of bytes at a place,
 -- and what is said besides (E).
-use Rattle.std.specs.Prelude.{Result, Ok, Err, ◌%◌, ℕ, List, [], ◌∷◌, Option, Some, None}
+use Rattle.std.specs.Prelude.{Result, Ok, Err, ◌%◌, ℕ, List, [], ◌∷◌, Some, None}
 use Rattle.byteorder.specs.Endian.{little_number}
 use Rattle.x86_insn.specs.declared.insn.Rm.{Rm}
 use Rattle.x86_insn.specs.declared.insn.Rm.TheVariants as rm
 use Rattle.x86_insn.specs.declared.insn.Src.{Src}
 use Rattle.x86_insn.specs.declared.insn.Src.TheVariants as src
 use Rattle.x86_insn.specs.declared.insn.Width.{Width}
-use Rattle.x86_insn.specs.State.{Core, Stop}
+use Rattle.x86_insn.specs.State.{Core}
 use Rattle.x86_insn.specs.Values.{width_bytes, modulus}
 use Rattle.x86_insn.specs.Operands.{reg_value, set_reg, effective_address, bytes_of}
 pub use Rattle.x86_insn.specs.declared.ask.Ask.{Ask}

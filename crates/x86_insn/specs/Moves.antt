@@ -1,9 +1,9 @@
 -- Rounds of moves: data, the stack, and flags. Intel SDM, volume 2. Each line says what one kind of instruction asks and
 -- how it ends; `got` has the byte lists that the round has read so far.
-use Rattle.std.specs.Prelude.{ℕ, ◌-◌, ◌%◌, ◌^◌, ◌/◌, ◌==◌, nat_lt, ◌||◌, Bool, true, false, not, List, [], ◌∷◌, reverse, Some, if◌then◌else◌}
+use Rattle.std.specs.Prelude.{ℕ, ◌-◌, ◌%◌, ◌^◌, ◌/◌, ◌==◌, nat_lt, ◌||◌, Bool, true, false, not, List, [], ◌∷◌, Some, if◌then◌else◌}
 use Rattle.std.specs.Int.{w32, swap_bytes}
 use Rattle.byteorder.specs.Endian.{little_from}
-use Rattle.mv_base.specs.Bytes.{word, words}
+use Rattle.mv_base.specs.Bytes.{words}
 use Rattle.mv_base.specs.Memory.{address_after}
 use Rattle.x86_insn.specs.declared.flags.Flags.{Flags}
 use Rattle.x86_insn.specs.declared.insn.Cond.{Cond}

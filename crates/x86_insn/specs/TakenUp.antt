@@ -1,5 +1,5 @@
 -- What of its answers a step takes up. This project's own.
-use Rattle.std.specs.Prelude.{ℕ, List, [], ◌∷◌}
+use Rattle.std.specs.Prelude.{List, [], ◌∷◌}
 use Rattle.mv_base.specs.Effects.{Effect, Answer, Ret}
 use Rattle.mv_base.specs.Effects as effects
 use Rattle.x86_insn.specs.declared.insn.Flow.{Flow}

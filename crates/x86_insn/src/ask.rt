@@ -2,8 +2,8 @@
 
 ghost use Rattle.std.specs.Prelude.{◌≡◌, ◌≤◌, length, take};
 
-use crate::registers::Core;
 use crate::insn::Width;
+use crate::registers::Core;
 use crate::stop::Stop;
 use std::marker::Model;
 

@@ -14,10 +14,10 @@ pub mod row;
 pub mod stop;
 
 pub use ask::{ACCESS_LEN, AccessBytes, AccessLen, Ask};
-pub use registers::Core;
 pub use flags::Flags;
 pub use insn::{
     AluOp, BitOp, Cond, Count, FlagOp, Flow, Insn, LoopKind, Mem, Reg, Rep, Rm, ShiftOp, Src,
     StrOp, UnOp, Width,
 };
+pub use registers::Core;
 pub use stop::{Kind, Stop};

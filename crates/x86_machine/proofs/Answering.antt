@@ -1,7 +1,5 @@
 -- The answers of a log one after the other, and what a system call makes of the next one.
-use Rattle.std.proofs.Common.{◌≡◌, ℕ, zero, suc, ◌+◌, ◌<◌, ◌≤◌, Bool, true, false, List, [], ◌∷◌, ◌++◌, length, map, drop, get_or, slice_set, Option, Some, None, Result, Ok, Err, nat_le, if◌then◌else◌, refl, sym, ap, ◌∙◌, subst, arith, add-one}
-use Rattle.std.specs.List.{AllByRecursion}
-use Rattle.std.proofs.lemmas.Bool.{cases_Bool}
+use Rattle.std.proofs.Common.{◌≡◌, ℕ, zero, suc, ◌+◌, ◌<◌, ◌≤◌, Bool, true, false, List, [], ◌∷◌, ◌++◌, length, drop, get_or, Option, Some, None, Err, nat_le, if◌then◌else◌, refl, sym, ap, ◌∙◌, subst, arith, add-one}
 use Rattle.std.proofs.Math.Seq.{drop-cons}
 use Rattle.std.proofs.Math.ListN.{drop_of_length-le}
 use Rattle.mv_base.specs.Memory.{Memory}
@@ -19,7 +17,7 @@ use Rattle.proc_image.specs.declared.effects.EffectFault.{EffectFault}
 use Rattle.proc_image.specs.declared.effects.EffectFault.TheVariants as fault
 use Rattle.proc_image.specs.Applying.{is_map}
 use Rattle.proc_image.specs.Counting.{mapped_size}
-use Rattle.x86_machine.specs.Bounded.{Bounded, Within, Beyond, IsWithin, map_next, bounded_next, apply_bounded, AreApplied}
+use Rattle.x86_machine.specs.Bounded.{Bounded, Within, Beyond, IsWithin, bounded_next, apply_bounded, AreApplied}
 use Rattle.x86_machine.specs.Stepping.{Comes, ComesTo, refused_as}
 use Rattle.x86_machine.proofs.Coming.{none-within}
 

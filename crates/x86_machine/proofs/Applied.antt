@@ -1,15 +1,14 @@
 -- Effects one after the other: what is left of them comes to the same as all of them.
-use Rattle.std.proofs.Common.{◌≡◌, ℕ, zero, suc, ◌<◌, ◌≤◌, Bool, true, false, List, [], ◌∷◌, ◌++◌, Option, Some, None, Result, Ok, Err, nat_le, if◌then◌else◌, refl, sym, ap, ◌∙◌, subst, arith, append_assoc}
-use Rattle.std.proofs.lemmas.Bool.{cases_Bool}
+use Rattle.std.proofs.Common.{◌≡◌, ℕ, ◌<◌, ◌≤◌, Bool, true, false, List, [], ◌∷◌, ◌++◌, Option, Some, None, Err, nat_le, if◌then◌else◌, refl, sym, ap, ◌∙◌, subst, arith}
 use Rattle.std.proofs.lemmas.Bool.Decides.{nat_tests}
 use Rattle.mv_base.specs.Memory.{Memory}
 use Rattle.mv_base.specs.Effects as refusal
 use Rattle.mv_base.specs.Effects.{Effect, Refusal, Applied, AllApplied, RefusedAt, apply_next, refusal_of, applied, apply_all}
 use Rattle.proc_image.specs.declared.effects.EffectFault.{EffectFault}
 use Rattle.proc_image.specs.declared.effects.EffectFault.TheVariants.{Executable, NotMapped, NotWritable, TooLarge, NoMemory}
-use Rattle.proc_image.specs.Applying.{is_map, IsDone, IsRefused, IsTooLarge, IsWithoutMemory, IsApplied}
+use Rattle.proc_image.specs.Applying.{is_map, IsDone, IsRefused, IsTooLarge, IsApplied}
 use Rattle.proc_image.specs.Counting.{mapped_size}
-use Rattle.x86_machine.specs.Bounded.{Bounded, Within, Beyond, map_next, bounded_next, apply_bounded, WantsMemory, AreApplied}
+use Rattle.x86_machine.specs.Bounded.{Bounded, Within, Beyond, map_next, bounded_next, apply_bounded, AreApplied}
 
 bounded-cons : (m : Memory) (e : Effect) (es : List Effect) → apply_bounded m (e ∷ es) ≡ bounded_next (refusal_of m e) (is_map e) (mapped_size (applied m e)) m (apply_bounded (applied m e) es)
 unfolding apply_bounded

@@ -1,6 +1,5 @@
 -- What a machine comes to, by the definition's outcome.
-use Rattle.std.proofs.Common.{◌≡◌, ℕ, List, [], refl, sym, ap, ◌∙◌, subst, subst₂}
-use Rattle.mv_base.specs.Effects.{Effect}
+use Rattle.std.proofs.Common.{◌≡◌, ℕ, [], sym, ap, ◌∙◌, subst, subst₂}
 use Rattle.mv_base.specs.Memory.{address_after}
 use Rattle.x86_insn.specs.declared.insn.Flow.{Flow}
 use Rattle.x86_insn.specs.declared.insn.Insn.{Insn}

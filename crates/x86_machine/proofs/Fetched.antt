@@ -1,10 +1,10 @@
 -- What is fetched, by the executable bytes from an address on.
-use Rattle.std.proofs.Common.{◌≡◌, ℕ, zero, suc, ◌+◌, ◌<◌, ◌≤◌, List, [], ◌∷◌, ◌++◌, length, take, drop, Option, Some, None, refl, sym, ap, ◌∙◌, subst, arith}
+use Rattle.std.proofs.Common.{◌≡◌, ℕ, suc, ◌+◌, ◌<◌, List, ◌++◌, length, take, Option, Some, None, refl, sym, ap, ◌∙◌, subst, arith}
 use Rattle.std.proofs.Math.Seq.{take-append_seam}
 use Rattle.mv_base.specs.Memory.{exec_bytes, with_rest}
 use Rattle.x86_insn.specs.declared.insn.Insn.{Insn}
 use Rattle.x86_insn.specs.Spelling.{decoded}
-use Rattle.x86_insn.specs.Step.{Fetched, Absent, Found, Unknown, found, fetched, fetch_in}
+use Rattle.x86_insn.specs.Step.{Absent, found, fetched, fetch_in}
 
 -- the first byte, where there are bytes
 first : (code : ℕ → Option ℕ) (a n : ℕ) → exec_bytes code a (suc n) ≡ with_rest (code a) (exec_bytes code (a + 1) n)

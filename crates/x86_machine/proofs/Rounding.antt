@@ -1,11 +1,11 @@
 -- Rounds one after the other: what is left of them comes to the same as all of them.
-use Rattle.std.proofs.Common.{◌≡◌, ℕ, zero, suc, ◌-◌, ◌<◌, ◌≤◌, Bool, true, false, refl, sym, ap, ◌∙◌, arith}
+use Rattle.std.proofs.Common.{◌≡◌, ℕ, zero, suc, ◌-◌, ◌<◌, ◌≤◌, Bool, true, false, sym, ap, ◌∙◌, arith}
 use Rattle.mv_base.specs.Memory.{Memory}
 use Rattle.x86_insn.specs.declared.insn.Insn.{Insn}
 use Rattle.x86_insn.specs.declared.registers.Core.{Core}
 use Rattle.x86_insn.specs.declared.stop.Stop.{Stop}
 use Rattle.x86_insn.specs.Round.{round}
-use Rattle.x86_insn.specs.Step.{Turn, Ended, Halted, turn, Rounds, Completed, Broken, after_turn, rounds}
+use Rattle.x86_insn.specs.Step.{Ended, Halted, turn, Rounds, Completed, Broken, after_turn, rounds}
 
 rounds-more : (n : ℕ) (i : Insn) (c : Core) (m : Memory) → 0 < n → rounds n i c m ≡ after_turn (turn m (round i c)) c m (rounds (n - 1) i)
 unfolding rounds

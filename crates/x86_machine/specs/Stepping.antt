@@ -1,5 +1,5 @@
 -- What a step of the machine gives: the step of the definition, or want of pages or memory. This project's own.
-use Rattle.std.specs.Prelude.{◌≡◌, ℕ, ◌+◌, ◌≤◌, List, length, drop, map}
+use Rattle.std.specs.Prelude.{◌≡◌, ℕ, ◌+◌, ◌≤◌, List, length, drop}
 use Rattle.mv_base.specs.Memory.{Memory}
 use Rattle.mv_base.specs.Effects.{Effect, Answer}
 use Rattle.x86_insn.specs.declared.registers.Core.{Core}

@@ -1,5 +1,5 @@
 -- What the machine's own types of turns stand for. This project's own.
-use Rattle.std.specs.Prelude.{◌≡◌, ℕ, List, Option, Some, None, Result, Ok, Err}
+use Rattle.std.specs.Prelude.{◌≡◌, ℕ, List, Some, None, Result, Ok, Err}
 use Rattle.mv_base.specs.Memory.{Memory, read_fault, bytes_at}
 use Rattle.x86_insn.specs.declared.stop.Kind.TheVariants.{ReadFault}
 use Rattle.x86_insn.specs.declared.stop.Stop.{Stop}

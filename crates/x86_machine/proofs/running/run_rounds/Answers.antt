@@ -1,4 +1,3 @@
-use Rattle.std.proofs.Common.{arith}
 use Rattle.proc_image.specs.Paged.{cells}
 use Rattle.x86_machine.proofs.Rounding.{goes-on, ends-there, stops-there, none-left}
 use Rattle.x86_machine.proofs.running.run_rounds.Goals as goal

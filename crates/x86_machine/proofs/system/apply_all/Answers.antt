@@ -1,9 +1,9 @@
-use Rattle.std.proofs.Common.{◌≡◌, ℕ, suc, ◌+◌, ◌<◌, ◌≤◌, List, [], ◌∷◌, ◌++◌, length, map, take, drop, get_or, refl, sym, ap, ◌∙◌, subst, arith, add-one}
+use Rattle.std.proofs.Common.{◌≡◌, ℕ, suc, ◌+◌, ◌<◌, List, [], ◌∷◌, ◌++◌, length, map, take, drop, get_or, refl, sym, ap, ◌∙◌, subst, arith, add-one}
 use Rattle.std.specs.List.{AllByRecursion}
 use Rattle.std.proofs.Math.Seq.{drop-cons, take-suc}
 use Rattle.std.proofs.Math.ListN.{drop_of_length-le}
 use Rattle.std.proofs.lemmas.List.{take-append-drop, map-append}
-use Rattle.mv_base.specs.Effects.{Effect, IsEffect, AllApplied, apply_all}
+use Rattle.mv_base.specs.Effects.{IsEffect, AllApplied, apply_all}
 use Rattle.syscall_log.specs.declared.effect.Effect.{Effect as Change}
 use Rattle.syscall_log.specs.Meaning.{effect_of}
 use Rattle.proc_image.specs.Paged.{cells}

@@ -1,4 +1,4 @@
-use Rattle.std.proofs.Common.{◌≡◌, ◌∙◌, ap, sym, arith, slice_index, ◌∷◌, [], drop, ◌+◌}
+use Rattle.std.proofs.Common.{◌∙◌, ap, sym, arith, drop, ◌+◌}
 use Rattle.mv_base.specs.Memory.{put, address_after}
 use Rattle.proc_image.specs.Paged.{cells}
 use Rattle.proc_image.proofs.Copying.{put-more, put-all}

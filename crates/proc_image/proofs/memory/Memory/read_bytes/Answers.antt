@@ -1,4 +1,4 @@
-use Rattle.std.proofs.Common.{◌≡◌, ◌-◌, ◌∙◌, ap, arith, sym, length, Some, None}
+use Rattle.std.proofs.Common.{◌∙◌, ap, sym, length, Some}
 use Rattle.std.proofs.lemmas.List.{length-set}
 use Rattle.mv_base.specs.Memory.{is_mapped, read_fault, bytes_at}
 use Rattle.proc_image.specs.Paged.{cells}

@@ -1,15 +1,14 @@
-use Rattle.std.proofs.Common.{◌≡◌, ◌<◌, ◌≤◌, ◌+◌, ◌∷◌, ◌++◌, [], ℕ, List, length, map, drop, get_or, slice_set, ◌∙◌, ap, ap₂, sym, subst, subst₂, arith, Err}
+use Rattle.std.proofs.Common.{◌<◌, ◌≤◌, ◌+◌, ◌∷◌, ◌++◌, [], length, map, get_or, slice_set, ◌∙◌, ap, sym, subst, subst₂, Err}
 use Rattle.std.specs.List.{AllByRecursion}
-use Rattle.mv_base.specs.Effects.{Answer, Ret, AllApplied, IsEffect, IsAnswer}
-use Rattle.x86_insn.specs.State.{State, Next, Stopped}
-use Rattle.x86_insn.specs.Step.{call_of, after_effects, system}
+use Rattle.mv_base.specs.Effects.{IsEffect, IsAnswer}
+use Rattle.x86_insn.specs.State.{Next, Stopped}
+use Rattle.x86_insn.specs.Step.{system}
 use Rattle.x86_insn.specs.TakenUp.{first_effects}
 use Rattle.x86_insn.specs.declared.stop.Stop.TheVariants.{Gone}
-use Rattle.syscall_log.specs.declared.answer.Answer.{Answer as Reply}
-use Rattle.syscall_log.specs.Meaning.{effect_of, answer_of, answers_of}
+use Rattle.syscall_log.specs.Meaning.{effect_of, answer_of}
 use Rattle.proc_image.specs.Paged.{cells}
 use Rattle.x86_machine.specs.Bounded.{apply_bounded, AreApplied}
-use Rattle.x86_machine.specs.Stepping.{answers_from, core_of, state_of, Comes, ComesTo}
+use Rattle.x86_machine.specs.Stepping.{answers_from, state_of, Comes, ComesTo}
 use Rattle.x86_machine.proofs.Answering.{taken-answer, no-answer, answer-keeps, ret-comes, fault-comes, gone-comes, none-comes}
 use Rattle.x86_machine.proofs.machine.Machine.call_system.Goals as goal
 

@@ -1,8 +1,6 @@
-use Rattle.std.proofs.Common.{◌≡◌, ◌∙◌, ◌+◌, ◌%◌, ◌^◌, ℕ, List, ap, sym, subst, inl, inr}
-use Rattle.mv_base.specs.Effects.{Answer}
-use Rattle.x86_insn.specs.declared.insn.Flow.{Flow}
+use Rattle.std.proofs.Common.{◌∙◌, ◌+◌, ◌%◌, ◌^◌, ℕ, ap, sym, inl, inr}
 use Rattle.x86_insn.specs.declared.insn.Flow.TheVariants as flow
-use Rattle.x86_machine.specs.Stepping.{answers_from, state_of, IsStep}
+use Rattle.x86_machine.specs.Stepping.{answers_from, state_of}
 use Rattle.x86_machine.proofs.Coming.{step-comes, absent-stops, unknown-stops}
 use Rattle.x86_machine.proofs.machine.Machine.step.Goals as goal
 

@@ -1,4 +1,4 @@
-use Rattle.std.proofs.Common.{◌≡◌, ◌∙◌, ap, sym, subst}
+use Rattle.std.proofs.Common.{◌∙◌, ap, sym, subst}
 use Rattle.x86_insn.specs.Round.{hop}
 use Rattle.x86_insn.specs.State.{Next, Stopped}
 use Rattle.x86_insn.specs.Step.{turn, after_hop}
