@@ -90,9 +90,13 @@ fn is_slot(slot: &[u8], bytes: &[u8]) -> bool {
 
 /// Whether code is the slots, and then zeros.
 fn are_slots(code: &[u8]) -> bool {
-    let mut slots = code.chunks(32);
-    SLOTS.iter().all(|bytes| slots.next().is_some_and(|slot| is_slot(slot, bytes)))
-        && slots.all(|slot| is_slot(slot, &[]))
+    for (number, slot) in code.chunks(32).enumerate() {
+        let bytes = SLOTS.get(number).map_or(&[][..], |bytes| *bytes);
+        if !is_slot(slot, bytes) {
+            return false;
+        }
+    }
+    code.len() >= 32 * SLOTS.len()
 }
 
 /// Whether the name holds the output of `IMAGE`.

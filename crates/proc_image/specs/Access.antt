@@ -3,14 +3,6 @@ use Rattle.std.specs.Prelude.{◌≡◌, ℕ, ◌^◌, ◌<◌, true, false, Lis
 use Rattle.byteorder.specs.Endian.{little_bytes}
 use Rattle.mv_base.specs.Bytes.{number}
 use Rattle.mv_base.specs.Memory.{Memory, read_fault, write_fault, is_mapped, byte_of, bytes_at, put}
-use Rattle.x86_insn.specs.declared.insn.Width.{Width}
-use Rattle.x86_insn.specs.declared.insn.Width.TheVariants.{B, W, D}
-
--- how many bytes an operand of this width has
-abbrev pub byte_count : Width → ℕ
-byte_count B = 1
-byte_count W = 2
-byte_count D = 4
 
 -- n bytes are mapped, the value is the number that they spell, and they are the value's bytes, which are no more
 pub record IsValueAt (m : Memory) (at n value : ℕ) : Type 0 where

@@ -3,24 +3,14 @@
 ghost use Rattle.std.specs.Prelude.{◌≡◌, ◌++◌, ◌∷◌, ℕ, [], length, drop};
 ghost use Rattle.byteorder.specs.Endian.{little_bytes};
 ghost use Rattle.mv_base.specs.Memory.{put, read_fault as first_unmapped, write_fault as first_unwritable, exec_byte, exec_bytes as executable_bytes, is_writable};
-ghost use Rattle.proc_image.specs.Access.{IsByte, IsRead, IsWritten, byte_count};
+ghost use Rattle.proc_image.specs.Access.{IsByte, IsRead, IsWritten};
+ghost use Rattle.x86_insn.specs.Values.{width_bytes};
 ghost use Rattle.proc_image.specs.Paged.{cells};
 
 use crate::limits::{LIMIT, PAGE_SIZE};
 use crate::memory::Memory;
 use byteorder::{ByteOrder, LittleEndian};
 use x86_insn::Width;
-
-/// How many bytes an operand has.
-fn byte_count(width: Width) -> u32
-    ensures { result ≡ byte_count width }
-{
-    match width {
-        Width::B => 1,
-        Width::W => 2,
-        Width::D => 4,
-    }
-}
 
 impl Memory {
     /// The little-endian number in the bytes of a width from `at` on.
@@ -29,7 +19,7 @@ impl Memory {
     ///
     /// The first of these bytes that isn't mapped.
     pub fn read(&self, at: u32, width: Width) -> Result<u32, u32>
-        ensures { IsRead (cells self.now) at (byte_count width) result }
+        ensures { IsRead (cells self.now) at (width_bytes width) result }
     {
         match width {
             Width::B => self.read_byte(at),
@@ -122,9 +112,9 @@ impl Memory {
     ///
     /// The first of these bytes that isn't mapped or can't be written. Then nothing has changed.
     pub fn write(&mut self, at: u32, width: Width, n: u32) -> Result<(), u32>
-        ensures { IsWritten (cells self.old) at (little_bytes (byte_count width) n) (cells self.new) result }
+        ensures { IsWritten (cells self.old) at (little_bytes (width_bytes width) n) (cells self.new) result }
     {
-        if let Some(fault) = self.write_fault(at, byte_count(width)) {
+        if let Some(fault) = self.write_fault(at, width.bytes() as u32) {
             return Err(fault);
         }
         match width {
