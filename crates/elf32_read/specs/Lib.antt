@@ -4,9 +4,10 @@ pub mod Faults
 pub mod Load
 pub mod Runs
 pub mod Reading
+pub mod Limits
+pub mod Joining
+-- what holds of them, for the proofs of this crate and of the crates above
 pub mod Whole
 pub mod Segments
 pub mod Loaded
-pub mod Limits
-pub mod Joining
 pub mod RunCount

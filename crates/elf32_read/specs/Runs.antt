@@ -39,7 +39,12 @@ abbrev pub code_of : List Run → ℕ → Option ℕ
 code_of [] a = None
 code_of (r ∷ rs) a = if within r.lo (length r.bytes) a then slice_get r.bytes (a - r.lo) else code_of rs a
 
--- runs that ascend from an address on, have bytes, leave a gap between any two, and end at most at 0xFFFFF000
+-- runs that ascend from an address on, leave a gap between any two, and end at most at 0xFFFFF000
+abbrev pub AreSpread : ℕ → List Run → Type 0
+AreSpread from [] = Unit {0}
+AreSpread from (r ∷ rs) = (from ≤ r.lo) × (r.lo + length r.bytes ≤ 0xFFFFF000) × AreSpread (r.lo + length r.bytes + 1) rs
+
+-- the same, where each has bytes
 abbrev pub AreApart : ℕ → List Run → Type 0
 AreApart from [] = Unit {0}
 AreApart from (r ∷ rs) = (from ≤ r.lo) × (0 < length r.bytes) × (r.lo + length r.bytes ≤ 0xFFFFF000) × AreApart (r.lo + length r.bytes + 1) rs

@@ -12,7 +12,7 @@ use Rattle.elf32_read.specs.declared.run.Run.{Run}
 use Rattle.elf32_read.specs.Fields.{headers, maps, has_exec, has_write, segment_of, segments}
 use Rattle.elf32_read.specs.Faults.{free_after, load_refusal}
 use Rattle.elf32_read.specs.Load.{segment_cell, load_in, load}
-use Rattle.elf32_read.specs.Runs.{IsFilled, segment_bytes, join_run, runs_in, runs_of, code_of, AreApart}
+use Rattle.elf32_read.specs.Runs.{IsFilled, segment_bytes, join_run, runs_in, runs_of, code_of, AreApart, AreSpread}
 use Rattle.elf32_read.specs.Whole.{IsSoundHeader, AreSound, AreSound-whole}
 
 -- a segment of a file with no fault, whose addresses lie from an address on
@@ -214,6 +214,10 @@ apart_by from lo bytes r rs false touch above some low apart =
     (above, some, low, (gap, apart.1, apart.2, apart.3))
 
 -- the same, for any runs
+pub AreSpread-apart : (from : ℕ) (rs : List Run) → AreApart from rs → AreSpread from rs
+AreSpread-apart from [] apart = tt
+AreSpread-apart from (r ∷ rs) apart = (apart.0, apart.2, AreSpread-apart (r.lo + length r.bytes + 1) rs apart.3)
+
 pub AreApart-join_run : (from lo : ℕ) (bytes : List ℕ) (rs : List Run) → from ≤ lo → 0 < length bytes → lo + length bytes ≤ 0xFFFFF000
     → AreApart (lo + length bytes) rs → AreApart from (join_run lo bytes rs)
 AreApart-join_run from lo bytes [] above some low apart = (above, some, low, tt)

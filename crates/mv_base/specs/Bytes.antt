@@ -1,5 +1,5 @@
 -- Numbers in little-endian order, in memory and in a file.
-use Rattle.std.specs.Prelude.{ℕ, List, [], ◌++◌, length, drop, ◌<◌, slice_index}
+use Rattle.std.specs.Prelude.{ℕ, List, length, drop, ◌<◌, slice_index}
 use Rattle.std.specs.List.{flat_map}
 use Rattle.byteorder.specs.Endian.{little_number, little_bytes}
 

@@ -1,8 +1,8 @@
 -- What an answer to a system call does to memory. This project's own: answers come from a log.
-use Rattle.std.specs.Prelude.{◌≡◌, ℕ, ◌+◌, ◌-◌, ◌^◌, ◌<◌, ◌≤◌, Bool, true, false, not, ◌||◌, List, [], ◌∷◌, length, Option, Some, None, is_some, if◌then◌else◌, slice_index}
+use Rattle.std.specs.Prelude.{ℕ, ◌+◌, ◌-◌, ◌^◌, ◌<◌, ◌≤◌, Bool, true, false, not, ◌||◌, List, [], ◌∷◌, length, Option, Some, None, is_some, if◌then◌else◌, slice_index}
 use Rattle.std.specs.List.{AllByRecursion}
 use Rattle.mv_base.specs.Bytes.{AreBytes}
-use Rattle.mv_base.specs.Memory.{Cell, Memory, is_mapped, is_writable, is_executable, within, first_failing, put}
+use Rattle.mv_base.specs.Memory.{Memory, is_mapped, is_writable, is_executable, within, first_failing, put}
 
 -- what new cells may be used for, besides reading
 pub data Mode : Type 0 where

@@ -13,3 +13,5 @@ pub mod Span
 pub mod StatusCode
 pub mod Table
 pub mod Text
+-- what holds of them, for the proofs of the crates above
+pub mod Words

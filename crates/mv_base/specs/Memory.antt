@@ -1,6 +1,6 @@
 -- Memory as a function from addresses to cells. This project's own: segments are exact to the byte,
 -- each mapped byte can be read, and nothing is mapped at or above 0xFFFFF000.
-use Rattle.std.specs.Prelude.{◌≡◌, ℕ, zero, suc, ◌+◌, ◌-◌, ◌%◌, ◌^◌, ◌<◌, Bool, true, false, List, [], ◌∷◌, length, Option, Some, None, is_some, nat_lt, nat_le, ◌&&◌, if◌then◌else◌, slice_index}
+use Rattle.std.specs.Prelude.{◌≡◌, ℕ, zero, suc, ◌+◌, ◌-◌, ◌%◌, ◌^◌, ◌<◌, Bool, false, List, [], ◌∷◌, length, Option, Some, None, is_some, nat_lt, nat_le, ◌&&◌, if◌then◌else◌, slice_index}
 use Rattle.std.specs.Option.{option_map}
 
 -- a byte, and whether it may be written and executed

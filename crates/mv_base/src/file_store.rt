@@ -6,9 +6,13 @@ ghost use Rattle.mv_base.specs.Holding.{KeepsLimit};
 use crate::pieces::{read_pieces, write_pieces};
 use crate::store::{Got, Store, StoreFault};
 use std::alloc::Global;
-use std::fs::File;
+use std::fs::{File, OpenOptions};
 use std::io;
+use std::os::unix::fs::OpenOptionsExt;
 use std::rt::Files;
+
+/// The permission bits of a file that is created, less those of the process's umask: what is written is a program.
+const NEW_FILE_MODE: u32 = 0o777;
 
 /// The files of the system. A name is a path. Nobody can say what a file holds, so this store tells nothing of it; its
 /// counts and the name that failed are exact.
@@ -89,8 +93,13 @@ fn read_file<R: Files>(
     read_pieces(&mut file, limit, to)
 }
 
-/// Makes the file at `path` hold `bytes`.
+/// Makes the file at `path` hold `bytes`. A file that is there keeps its permission bits.
 fn write_file<R: Files>(files: &R, path: &str, bytes: &[u8]) -> io::Result<()> {
-    let mut file = File::create(files, path)?;
+    let mut file = OpenOptions::new()
+        .write(true)
+        .create(true)
+        .truncate(true)
+        .mode(NEW_FILE_MODE)
+        .open(files, path)?;
     write_pieces(&mut file, bytes)
 }

@@ -93,6 +93,12 @@ fn files_are_written_and_read(rt: HostRuntime) -> Result<(), Fail> {
         store.put("no such folder/file", b""),
         Err(StoreFault::Failed)
     );
+    // a read that fails is no end of the file, and a write that fails is no success
+    assert_eq!(rt;
+        store.get("/", 9, &mut Vec::new(alloc)),
+        Err(StoreFault::Failed)
+    );
+    assert_eq!(rt; store.put("/dev/full", b"a"), Err(StoreFault::Failed));
     Ok(())
 }
 

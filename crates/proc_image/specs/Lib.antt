@@ -6,4 +6,5 @@ pub mod Mapping
 pub mod Applying
 pub mod Loading
 pub mod Stack
+-- what holds of them, for the proofs of this crate and of the crates above
 pub mod Laws

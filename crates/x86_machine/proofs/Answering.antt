@@ -106,6 +106,9 @@ module _ (s : State) (next : ℕ) (answers rest : List Answer) (eax : ℕ) (es :
       split = effects-are ∙ is.split;
       maps = is.maps;
       stand = is.stand;
+      left = ap (apply_bounded s.memory) effects-are ∙ is.left;
+      allowed = is.allowed;
+      limit = is.limit;
     };
     same = refl;
   }

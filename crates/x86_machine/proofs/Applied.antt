@@ -6,7 +6,7 @@ use Rattle.mv_base.specs.Effects as refusal
 use Rattle.mv_base.specs.Effects.{Effect, Refusal, Applied, AllApplied, RefusedAt, apply_next, refusal_of, applied, apply_all}
 use Rattle.proc_image.specs.declared.effects.EffectFault.{EffectFault}
 use Rattle.proc_image.specs.declared.effects.EffectFault.TheVariants.{Executable, NotMapped, NotWritable, TooLarge, NoMemory}
-use Rattle.proc_image.specs.Applying.{is_map, IsDone, IsRefused, IsTooLarge, IsApplied}
+use Rattle.proc_image.specs.Applying.{is_map, KeepsLimit, IsDone, IsRefused, IsTooLarge, IsApplied}
 use Rattle.proc_image.specs.Counting.{mapped_size}
 use Rattle.x86_machine.specs.Bounded.{Bounded, Within, Beyond, map_next, bounded_next, apply_bounded, AreApplied}
 
@@ -86,4 +86,7 @@ fault-there NoMemory first old new before e es all left split stand is = record 
   split = split;
   maps = is.map;
   stand = stand ∙ ap AllApplied (sym is.same);
+  left = left ∙ ap (λ m. apply_bounded m (e ∷ es)) (sym is.same);
+  allowed = ap (λ m. refusal_of m e) is.same ∙ is.allowed;
+  limit = subst (λ m. KeepsLimit m e) (sym is.same) is.limit;
 }

@@ -5,7 +5,7 @@ use Rattle.mv_base.specs.Effects as refusal
 use Rattle.mv_base.specs.Effects.{Effect, Refusal, Applied, AllApplied, RefusedAt, refusal_of, applied, apply_all}
 use Rattle.proc_image.specs.declared.effects.EffectFault.{EffectFault}
 use Rattle.proc_image.specs.declared.effects.EffectFault.TheVariants.{Executable, NotMapped, NotWritable, TooLarge, NoMemory}
-use Rattle.proc_image.specs.Applying.{is_map}
+use Rattle.proc_image.specs.Applying.{is_map, KeepsLimit}
 use Rattle.proc_image.specs.Counting.{mapped_size}
 
 -- what effects in their order come to: all are applied or one is refused, or a map would leave more pages with a mapped
@@ -32,7 +32,8 @@ abbrev pub IsWithin : Bounded → Type 0
 IsWithin (Within a) = Unit {0}
 IsWithin (Beyond size m) = ⊥
 
--- effects of which one maps, and the memory after those before it
+-- effects of which one maps, is not refused and keeps the bound, and the memory after those before it; from there the
+-- effects come to what they all come to
 pub record WantsMemory (m : Memory) (es : List Effect) (new : Memory) : Type 0 where
   pub before : List Effect
   pub effect : Effect
@@ -40,6 +41,9 @@ pub record WantsMemory (m : Memory) (es : List Effect) (new : Memory) : Type 0 w
   pub split : es ≡ before ++ effect ∷ after
   pub maps : is_map effect ≡ true
   pub stand : apply_all m before ≡ AllApplied new
+  pub left : apply_bounded m es ≡ apply_bounded new (effect ∷ after)
+  pub allowed : refusal_of new effect ≡ None
+  pub limit : KeepsLimit new effect
 
 -- the answer to effects in their order, by the memories before and after them
 abbrev pub AreApplied : Memory → List Effect → Memory → Result (Unit {0}) EffectFault → Type 0

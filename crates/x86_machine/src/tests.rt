@@ -51,6 +51,31 @@ fn log_of_one(alloc: Global, eax: u32, effect: Option<Effect>) -> Result<Log, Fa
     log_of(alloc, answers)
 }
 
+/// A log of one answer: 0x100 for EAX after a map of a page, a write to it, and an unmapping of its upper half.
+fn log_of_three(alloc: Global) -> Result<Log, Fail> {
+    let mut effects = Vec::new(alloc);
+    effects.push(Effect::Map {
+        lo: 0x4000_0000,
+        len: 0x1000,
+        mode: Mode::Write,
+        bytes: Bytes::new(Vec::from_slice(alloc, &[1, 2])?),
+    })?;
+    effects.push(Effect::Write {
+        lo: 0x4000_0001,
+        bytes: Bytes::new(Vec::from_slice(alloc, &[9])?),
+    })?;
+    effects.push(Effect::Unmap {
+        lo: 0x4000_0800,
+        len: 0x800,
+    })?;
+    let mut answers = Vec::new(alloc);
+    answers.push(Answer::Ret {
+        eax: 0x100,
+        effects: Effects::new(effects),
+    })?;
+    log_of(alloc, answers)
+}
+
 /// The steps that a machine completes, at most a hundred, and what the next one gives.
 fn run(machine: &mut Machine, log: &Log) -> (u32, Outcome)
     requires { length log.now.answers ≤ machine.old.calls.spare }
@@ -233,6 +258,18 @@ fn takes_answers(rt: HostRuntime) -> Result<(), Fail> {
     let (_, steps, outcome) = ran(alloc, code, &log_of_one(alloc, 0, Some(write))?)?;
     assert_eq!(rt; (steps, outcome), (0, Outcome::BadAnswer));
 
+    // one answer that maps a page, writes to it and takes its upper half away; then mov al,[0x40000001] and
+    // mov al,[0x40000800]
+    let code = b"\xCD\x80\xA0\x01\x00\x00\x40\xA0\x00\x08\x00\x40";
+    let (machine, steps, outcome) = ran(alloc, code, &log_of_three(alloc)?)?;
+    assert_eq!(rt;
+        (steps, outcome),
+        (2, Outcome::Trap(Kind::ReadFault, 0x4000_0800))
+    );
+    assert_eq!(rt; machine.regs[0], 0x109);
+
+    // int 0x80; hlt
+    let code = b"\xCD\x80\xF4";
     let log = log_of_one(alloc, 0xFFFF_FFFF, None)?;
     let (machine, steps, outcome) = ran(alloc, code, &log)?;
     assert_eq!(rt; (steps, outcome), (1, Outcome::Trap(Kind::Protection, 0)));
