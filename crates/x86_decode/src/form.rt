@@ -2,7 +2,7 @@
 
 ghost use Rattle.std.specs.Prelude.{◌≡◌, ◌+◌, ◌≤◌, ◌<◌, IsTrue};
 ghost use Rattle.x86_insn.specs.Addressing.{byte_at};
-ghost use Rattle.x86_insn.specs.Spelling.{width_of, takes_word, takes_repeat, has_modrm, takes_operand, takes_digit, immediate_length, signed_byte, half_number, immediate_of, addressed, from_modrm, form_width, immediate_place, operand_length, takes_marks, takes_modrm, operands_of};
+ghost use Rattle.x86_insn.specs.Spelling.{has_modrm, takes_digit, immediate_length, signed_byte, half_number, immediate_of, from_modrm, immediate_place, operand_length, takes_modrm, operands_of};
 ghost use Rattle.x86_insn.specs.Scanning.{mod_of, digit_of, seeded, scan_operands};
 ghost use Rattle.x86_decode.specs.Candidates.{scan_forms};
 ghost use Rattle.x86_decode.specs.Reading.{scan_of, len_of};
@@ -12,50 +12,8 @@ use crate::address::{
 };
 use crate::meaning::meaning;
 use crate::reading::Reading;
-use x86_insn::row::{Form, Immediate, Layout, Marks, Operands, Repeat, Size};
-use x86_insn::{Rep, Width};
-
-fn width_of(size: Size, word: bool) -> Width
-    ensures { result ≡ width_of size word }
-{
-    match size {
-        Size::Byte => Width::B,
-        Size::Vary => { if word { Width::W } else { Width::D } }
-        Size::Dword => Width::D,
-    }
-}
-
-fn takes_word(size: Size) -> bool
-    ensures { result ≡ takes_word size }
-{
-    matches!(size, Size::Vary)
-}
-
-fn takes_repeat(repeat: Repeat, rep: Rep) -> bool
-    ensures { result ≡ takes_repeat repeat rep }
-{
-    match rep {
-        Rep::Once => !matches!(repeat, Repeat::Needed),
-        Rep::F3 => !matches!(repeat, Repeat::Never),
-        Rep::F2 => matches!(repeat, Repeat::Repe),
-    }
-}
-
-fn has_modrm(layout: Layout) -> bool
-    ensures { result ≡ has_modrm layout }
-{
-    !matches!(layout, Layout::NoModrm)
-}
-
-fn takes_operand(layout: Layout, memory: bool) -> bool
-    ensures { result ≡ takes_operand layout memory }
-{
-    match layout {
-        Layout::NoModrm | Layout::Any => true,
-        Layout::Memory => memory,
-        Layout::Register => !memory,
-    }
-}
+use x86_insn::Width;
+use x86_insn::row::{Form, Immediate, Layout, Marks, Operands};
 
 fn takes_digit(digit: Option<u8>, field: u8) -> bool
     ensures { result ≡ takes_digit digit field }
@@ -120,7 +78,7 @@ fn immediate_of(immediate: Immediate, width: Width, bytes: &[u8], place: usize) 
 fn from_modrm<'a>(form: &Form, bytes: &'a [u8]) -> &'a [u8]
     ensures { result.now ≡ from_modrm form.now bytes.now }
 {
-    if has_modrm(form.layout) { bytes } else { &[] }
+    if form.layout.has_modrm() { bytes } else { &[] }
 }
 
 // Where the immediate stands.
@@ -128,7 +86,7 @@ fn immediate_place(form: &Form, bytes: &[u8]) -> usize
     ensures is { result ≡ immediate_place (has_modrm form.now.layout) bytes.now }
     ensures at_most { result ≤ 6 }
 {
-    if has_modrm(form.layout) {
+    if form.layout.has_modrm() {
         address_length(bytes)
     } else {
         0
@@ -139,16 +97,7 @@ fn operand_length(form: &Form, marks: Marks, bytes: &[u8]) -> usize
     ensures is { result ≡ operand_length form.now marks bytes.now }
     ensures at_most { result ≤ 10 }
 {
-    immediate_place(form, bytes) + immediate_length(form.immediate, width_of(form.size, marks.word))
-}
-
-// The prefixes may stand before the form.
-fn takes_marks(form: &Form, marks: Marks) -> bool
-    ensures { result ≡ takes_marks form.now marks }
-{
-    (!marks.word || takes_word(form.size))
-        && takes_repeat(form.repeat, marks.rep)
-        && (!marks.lock || form.lock)
+    immediate_place(form, bytes) + immediate_length(form.immediate, form.size.width(marks.word))
 }
 
 // ModRM is one of the form's; F0 asks for memory.
@@ -157,7 +106,7 @@ fn takes_modrm(form: &Form, marks: Marks, bytes: &[u8]) -> bool
 {
     let modrm = from_modrm(form, bytes);
     takes_digit(form.digit, reg_field(modrm))
-        && takes_operand(form.layout, names_memory(modrm))
+        && form.layout.takes(names_memory(modrm))
         && (!marks.lock || names_memory(modrm))
 }
 
@@ -165,7 +114,7 @@ fn operands_of(form: &Form, marks: Marks, opcode: u8, bytes: &[u8]) -> Operands
     ensures { result ≡ operands_of form.now marks opcode bytes.now }
 {
     let modrm = from_modrm(form, bytes);
-    let width = width_of(form.size, marks.word);
+    let width = form.size.width(marks.word);
     Operands {
         width,
         marks,
@@ -197,7 +146,7 @@ pub fn scan_operands(form: &Form, marks: Marks, opcode: u8, bytes: &[u8]) -> Rea
 {
     let seed = [seed(form)];
     let seeded = if bytes.is_empty() { &seed } else { bytes };
-    if !takes_marks(form, marks) || !takes_modrm(form, marks, seeded) {
+    if !form.takes_marks(marks) || !takes_modrm(form, marks, seeded) {
         return Reading::Nothing;
     }
     let len = operand_length(form, marks, seeded);

@@ -22,7 +22,7 @@ use Rattle.x86_insn.specs.PrefixScan.{unlimited, unlimited_parts, unlimited_of, 
 
 -- ---- bytes
 
-bytes_listed : (s : List ℕ) → are_bytes s ≡ true → AreBytes s
+pub bytes_listed : (s : List ℕ) → are_bytes s ≡ true → AreBytes s
 bytes_listed [] h k = omega arith
 bytes_listed (b ∷ s) h zero = leb-true (suc b) 256 (both_true (nat_lt b 256) (are_bytes s) h).0
 bytes_listed (b ∷ s) h (suc k) = bytes_listed s (both_true (nat_lt b 256) (are_bytes s) h).1 k

@@ -35,6 +35,25 @@ cond_of (suc (suc (suc (suc (suc (suc (suc (suc (suc (suc (suc (suc (suc zero)))
 cond_of (suc (suc (suc (suc (suc (suc (suc (suc (suc (suc (suc (suc (suc (suc zero)))))))))))))) = Le
 cond_of (suc (suc (suc (suc (suc (suc (suc (suc (suc (suc (suc (suc (suc (suc (suc n))))))))))))))) = G
 
+-- a condition's number
+abbrev pub cond_number : Cond → ℕ
+cond_number O = 0
+cond_number No = 1
+cond_number B = 2
+cond_number Ae = 3
+cond_number E = 4
+cond_number Ne = 5
+cond_number Be = 6
+cond_number A = 7
+cond_number S = 8
+cond_number Ns = 9
+cond_number P = 10
+cond_number Np = 11
+cond_number L = 12
+cond_number Ge = 13
+cond_number Le = 14
+cond_number G = 15
+
 -- an operand that may be written, read alone
 abbrev pub source_of : Rm → Src
 source_of (rm.R r) = src.R r

@@ -114,6 +114,37 @@ pub enum Cond {
     G,
 }
 
+impl Cond {
+    ghost use Rattle.std.specs.Prelude.{◌≡◌, ◌<◌};
+    ghost use Rattle.x86_insn.specs.Meaning.{cond_of, cond_number};
+
+    /// The condition's number, from 0 to 15.
+    pub fn number(self) -> u8
+        ensures is { result ≡ cond_number self }
+        ensures low { result < 16 }
+        ensures back { cond_of result ≡ self }
+    {
+        match self {
+            Cond::O => 0,
+            Cond::No => 1,
+            Cond::B => 2,
+            Cond::Ae => 3,
+            Cond::E => 4,
+            Cond::Ne => 5,
+            Cond::Be => 6,
+            Cond::A => 7,
+            Cond::S => 8,
+            Cond::Ns => 9,
+            Cond::P => 10,
+            Cond::Np => 11,
+            Cond::L => 12,
+            Cond::Ge => 13,
+            Cond::Le => 14,
+            Cond::G => 15,
+        }
+    }
+}
+
 #[derive(Clone, Copy)]
 pub enum AluOp {
     Add,

@@ -29,6 +29,29 @@ pub enum Layout {
     Register,
 }
 
+impl Layout {
+    ghost use Rattle.std.specs.Prelude.{◌≡◌};
+    ghost use Rattle.x86_insn.specs.Spelling.{has_modrm, takes_operand};
+
+    /// Whether a ModRM byte follows the opcode.
+    pub fn has_modrm(self) -> bool
+        ensures { result ≡ has_modrm self }
+    {
+        !matches!(self, Layout::NoModrm)
+    }
+
+    /// Whether ModRM may name memory, or a register where `memory` is false.
+    pub fn takes(self, memory: bool) -> bool
+        ensures { result ≡ takes_operand self memory }
+    {
+        match self {
+            Layout::NoModrm | Layout::Any => true,
+            Layout::Memory => memory,
+            Layout::Register => !memory,
+        }
+    }
+}
+
 /// The immediate after the other operand bytes.
 #[derive(Clone, Copy)]
 pub enum Immediate {
@@ -56,6 +79,29 @@ pub enum Size {
     Dword,
 }
 
+impl Size {
+    ghost use Rattle.std.specs.Prelude.{◌≡◌};
+    ghost use Rattle.x86_insn.specs.Spelling.{width_of, takes_word};
+
+    /// The operand's width, by whether the prefix 66 stands.
+    pub fn width(self, word: bool) -> Width
+        ensures { result ≡ width_of self word }
+    {
+        match self {
+            Size::Byte => Width::B,
+            Size::Vary => { if word { Width::W } else { Width::D } }
+            Size::Dword => Width::D,
+        }
+    }
+
+    /// Whether the prefix 66 may stand.
+    pub fn takes_word(self) -> bool
+        ensures { result ≡ takes_word self }
+    {
+        matches!(self, Size::Vary)
+    }
+}
+
 /// Which of the prefixes F2 and F3 may stand.
 #[derive(Clone, Copy)]
 pub enum Repeat {
@@ -69,6 +115,22 @@ pub enum Repeat {
     Rep,
     /// F3 or F2, which repeat while the elements are equal or differ.
     Repe,
+}
+
+impl Repeat {
+    ghost use Rattle.std.specs.Prelude.{◌≡◌};
+    ghost use Rattle.x86_insn.specs.Spelling.{takes_repeat};
+
+    /// Whether this prefix, or none, may stand.
+    pub fn takes(self, rep: Rep) -> bool
+        ensures { result ≡ takes_repeat self rep }
+    {
+        match rep {
+            Rep::Once => !matches!(self, Repeat::Needed),
+            Rep::F3 => !matches!(self, Repeat::Never),
+            Rep::F2 => matches!(self, Repeat::Repe),
+        }
+    }
 }
 
 /// What a row spells, and of which operands: `Rm` is the operand that ModRM names, `Reg` the register in ModRM's
@@ -162,6 +224,20 @@ pub struct Form {
     pub lock: bool,
     pub repeat: Repeat,
     pub kind: Kind,
+}
+
+impl Form {
+    ghost use Rattle.std.specs.Prelude.{◌≡◌};
+    ghost use Rattle.x86_insn.specs.Spelling.{takes_marks};
+
+    /// Whether prefixes that set these marks may stand before it.
+    pub fn takes_marks(&self, marks: Marks) -> bool
+        ensures { result ≡ takes_marks self.now marks }
+    {
+        (!marks.word || self.size.takes_word())
+            && self.repeat.takes(marks.rep)
+            && (!marks.lock || self.lock)
+    }
 }
 
 /// A row of the spelling table.
