@@ -1,0 +1,2 @@
+-- a symbolic step is one line
+pub mod ReturnPiece
