@@ -1,0 +1,2 @@
+-- the law's premises are met
+pub mod Instance
