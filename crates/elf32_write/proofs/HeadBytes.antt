@@ -14,10 +14,10 @@ use Rattle.elf32_read.specs.declared.image.Image.{Image}
 use Rattle.elf32_read.specs.declared.image.Phdr.{Phdr}
 use Rattle.elf32_read.specs.Fields.{headers, ident_rest}
 use Rattle.elf32_write.specs.declared.plan.Plan.{Plan}
-use Rattle.elf32_write.specs.File.{header_words, kept_header, with_added, table_of, place_words, record_words, new_headers, added_headers, elf_header, head, head_len, record_place}
+use Rattle.elf32_write.specs.File.{header_words, kept_header, with_added, table_of, place_words, record_words, new_headers, added_headers, elf_header, head, head_len, record_place, padded, file_of}
 use Rattle.elf32_write.specs.Format.{filled}
 use Rattle.elf32_write.specs.Writing.{header_bytes, is_above, record_front, front, HasHead}
-use Rattle.elf32_write.specs.Words.{length-words, words-append}
+use Rattle.mv_base.specs.Words.{length-words, words-append}
 
 -- the execute flag cleared and the read flag set
 pub kept_flags : (f : ℕ) → f < 2 ^ 32 → bit_and (bit_or f 4) 4294967294 ≡ f / 8 * 8 + 4 + f / 2 % 2 * 2
@@ -208,3 +208,10 @@ front_parts b p image count t0 t1 t2 added hs has counts empty e1 ea eh e2 =
     e2 ∙ (ap (λ (l : List ℕ). l ++ words (flat_map header_words (with_added p.base added hs))) elf
     ∙ ap (λ (l : List Phdr). elf_header b p.entry (length (new_headers b p)) ++ words (flat_map header_words l))
     (ap (λ (l : List Phdr). with_added p.base l hs) ea ∙ ap (with_added p.base (added_headers (length b) p)) (eh ∙ has.headers_are)))
+
+-- the whole file, part by part
+pub file_parts : (b : List ℕ) (p : Plan) (t1 t2 code t3 t4 : List ℕ) → t1 ≡ head b p → t2 ≡ t1 ++ padded b → code ≡ p.code → t3 ≡ t2 ++ padded code → t4 ≡ t3 ++ padded (table_of p)
+    → t4 ≡ file_of b p
+unfolding file_of
+file_parts b p t1 t2 code t3 t4 e1 e2 ec e3 e4 =
+    e4 ∙ ap (λ (l : List ℕ). l ++ padded (table_of p)) (e3 ∙ (ap (λ (l : List ℕ). t2 ++ padded l) ec ∙ ap (λ (l : List ℕ). l ++ padded p.code) (e2 ∙ ap (λ (l : List ℕ). l ++ padded b) e1)))

@@ -1,19 +1,16 @@
 -- The runs of a frame record, one after the other.
-use Rattle.std.proofs.Common.{◌≡◌, ℕ, zero, suc, ◌+◌, ◌-◌, ◌*◌, ◌<◌, ◌≤◌, Bool, true, false, cond, ◌&&◌, List, [], ◌∷◌, length, drop, map, Option, Some, None, refl, sym, ap, ◌∙◌, subst, arith}
-use Rattle.std.specs.List.{range_with_len, slice_get, sum_by}
-use Rattle.std.proofs.lemmas.List.{length-take, length-drop}
-use Rattle.std.proofs.lemmas.Bool.{and_parts, eqb-true, leb-true}
+use Rattle.std.proofs.Common.{◌≡◌, ℕ, zero, suc, ◌+◌, ◌-◌, ◌*◌, ◌/◌, ◌%◌, ◌<◌, ◌≤◌, Bool, true, false, cond, ◌&&◌, List, [], ◌∷◌, length, map, Option, Some, None, eqb, ◌≢◌, refl, sym, ap, ◌∙◌, subst, arith}
+use Rattle.std.specs.List.{range_with_len, slice_get, sum_by, list_all}
+use Rattle.std.proofs.lemmas.Bool.{and_parts, eqb-true, leb-true, eq-eqb, ne_eqb}
 use Rattle.std.proofs.lemmas.List.FromFn.{length-map-range_with_len}
 use Rattle.std.proofs.lemmas.List.Sums.{sum_by-cons}
 use Rattle.mv_base.specs.declared.range.RunPlace.{RunPlace}
 use Rattle.mv_base.specs.Memory.{within}
 use Rattle.mv_base.specs.Bytes.{word_at}
-use Rattle.mv_base.specs.Table.{run_of, flat_word}
-use Rattle.elf32_write.specs.Format.{up}
-use Rattle.elf32_write.specs.File.{code_place}
-use Rattle.elf32_write.specs.Frame.{field, frame_at, run_place_at, has_places, has_block, has_runs, Frame, frame_table, frame_entry}
+use Rattle.mv_base.specs.Table.{run_of, flat_word, paged_word, group_count, page_named, page_at}
+use Rattle.elf32_write.specs.Frame.{field, frame_at, run_place_at, has_places, has_block, is_run, is_in_table, has_pages, has_part, has_runs, Frame, TableAt, table_at, frame_table, frame_entry}
 use Rattle.elf32_write.specs.Within.{within_parts}
-use Rattle.elf32_write.specs.Framing.{is_run, IsFramed}
+use Rattle.elf32_write.specs.Framing.{IsFramed}
 
 -- the runs from the i-th on of the first n that a record spells
 unfoldable pub runs_from : List ℕ → ℕ → ℕ → List RunPlace
@@ -34,28 +31,38 @@ unfolding runs_from
 from_end x i n le = ap (λ k. map (run_place_at x) (range_with_len i k)) (let none : n - i ≡ 0 = omega arith in none)
 
 -- the rule on the runs, run by run
-pub rule_first : (x : List ℕ) (n : ℕ) → n ≡ field x 15 → has_runs (frame_at x) 0 (frame_at x).runs ≡ has_runs (frame_at x) 0 (runs_from x 0 n)
-rule_first x n e = ap (has_runs (frame_at x) 0) (from_first x n e)
+pub rule_first : (t : TableAt) (x : List ℕ) (n : ℕ) → n ≡ field x 15 → has_runs t 0 (frame_at x).runs ≡ has_runs t 0 (runs_from x 0 n)
+rule_first t x n e = ap (has_runs t 0) (from_first x n e)
 
-rule_step : (x : List ℕ) (from i n : ℕ) → i < n
-    → has_runs (frame_at x) from (runs_from x i n)
-    ≡ (is_run (field x 8) (field x 14) from (run_place_at x i) && has_runs (frame_at x) ((run_place_at x i).lo + (run_place_at x i).len + 1) (runs_from x (i + 1) n))
-unfolding has_runs frame_at
-rule_step x from i n lt = ap (λ (rs : List RunPlace). has_runs (frame_at x) from rs) (from_next x i n lt)
-
-pub rule_fails : (x : List ℕ) (all : Bool) (from i n : ℕ) → i < n → all ≡ has_runs (frame_at x) from (runs_from x i n) → is_run (field x 8) (field x 14) from (run_place_at x i) ≡ false → false ≡ all
-rule_fails x all from i n lt same fails =
-    sym (same ∙ (rule_step x from i n lt ∙ ap (λ t. t && has_runs (frame_at x) ((run_place_at x i).lo + (run_place_at x i).len + 1) (runs_from x (i + 1) n)) fails))
-
-pub rule_holds : (x : List ℕ) (all : Bool) (from next i n : ℕ) → i < n → all ≡ has_runs (frame_at x) from (runs_from x i n) → is_run (field x 8) (field x 14) from (run_place_at x i) ≡ true
-    → next ≡ (run_place_at x i).lo + (run_place_at x i).len + 1 → all ≡ has_runs (frame_at x) next (runs_from x (i + 1) n)
-rule_holds x all from next i n lt same holds e =
-    same ∙ (rule_step x from i n lt ∙ (ap (λ t. t && has_runs (frame_at x) ((run_place_at x i).lo + (run_place_at x i).len + 1) (runs_from x (i + 1) n)) holds
-    ∙ ap (λ k. has_runs (frame_at x) k (runs_from x (i + 1) n)) (sym e)))
-
-pub rule_end : (x : List ℕ) (all : Bool) (from i n : ℕ) → n ≤ i → all ≡ has_runs (frame_at x) from (runs_from x i n) → true ≡ all
+rule_step : (t : TableAt) (x : List ℕ) (from i n : ℕ) → i < n
+    → has_runs t from (runs_from x i n)
+    ≡ (is_run from (run_place_at x i) && has_part t (run_place_at x i) && has_runs t ((run_place_at x i).lo + (run_place_at x i).len + 1) (runs_from x (i + 1) n))
 unfolding has_runs
-rule_end x all from i n le same = sym (same ∙ ap (λ (rs : List RunPlace). has_runs (frame_at x) from rs) (from_end x i n le))
+rule_step t x from i n lt = ap (λ (rs : List RunPlace). has_runs t from rs) (from_next x i n lt)
+
+pub rule_fails : (t : TableAt) (x : List ℕ) (all : Bool) (from i n : ℕ) → i < n → all ≡ has_runs t from (runs_from x i n) → is_run from (run_place_at x i) ≡ false → false ≡ all
+rule_fails t x all from i n lt same fails =
+    sym (same ∙ (rule_step t x from i n lt
+    ∙ ap (λ s. s && has_part t (run_place_at x i) && has_runs t ((run_place_at x i).lo + (run_place_at x i).len + 1) (runs_from x (i + 1) n)) fails))
+
+pub part_fails : (t : TableAt) (x : List ℕ) (all : Bool) (from i n : ℕ) → i < n → all ≡ has_runs t from (runs_from x i n) → is_run from (run_place_at x i) ≡ true
+    → has_part t (run_place_at x i) ≡ false → false ≡ all
+part_fails t x all from i n lt same holds fails =
+    sym (same ∙ (rule_step t x from i n lt
+    ∙ (ap (λ s. s && has_part t (run_place_at x i) && has_runs t ((run_place_at x i).lo + (run_place_at x i).len + 1) (runs_from x (i + 1) n)) holds
+    ∙ ap (λ s. true && s && has_runs t ((run_place_at x i).lo + (run_place_at x i).len + 1) (runs_from x (i + 1) n)) fails)))
+
+pub rule_holds : (t : TableAt) (x : List ℕ) (all : Bool) (from next i n : ℕ) → i < n → all ≡ has_runs t from (runs_from x i n) → is_run from (run_place_at x i) ≡ true
+    → has_part t (run_place_at x i) ≡ true → next ≡ (run_place_at x i).lo + (run_place_at x i).len + 1 → all ≡ has_runs t next (runs_from x (i + 1) n)
+rule_holds t x all from next i n lt same holds part e =
+    same ∙ (rule_step t x from i n lt
+    ∙ (ap (λ s. s && has_part t (run_place_at x i) && has_runs t ((run_place_at x i).lo + (run_place_at x i).len + 1) (runs_from x (i + 1) n)) holds
+    ∙ (ap (λ s. true && s && has_runs t ((run_place_at x i).lo + (run_place_at x i).len + 1) (runs_from x (i + 1) n)) part
+    ∙ ap (λ k. has_runs t k (runs_from x (i + 1) n)) (sym e))))
+
+pub rule_end : (t : TableAt) (x : List ℕ) (all : Bool) (from i n : ℕ) → n ≤ i → all ≡ has_runs t from (runs_from x i n) → true ≡ all
+unfolding has_runs
+rule_end t x all from i n le same = sym (same ∙ ap (λ (rs : List RunPlace). has_runs t from rs) (from_end x i n le))
 
 -- the length of the runs, run by run
 abbrev pub len_of : List RunPlace → ℕ
@@ -105,10 +112,10 @@ search_end x a i n all le same = sym (same ∙ ap (λ (rs : List RunPlace). run_
 
 -- ---- the rules as facts
 
-pub framed : (x : List ℕ) → 0x1000 ≤ length x → field x 15 ≤ 64 → field x 3 ≤ 67108864 → has_places (frame_at x) ≡ true → has_block (frame_at x) ≡ true
-    → has_runs (frame_at x) 0 (frame_at x).runs ≡ true → IsFramed x
+pub framed : (x : List ℕ) → 0x1000 ≤ length x → 1 ≤ field x 2 → field x 2 ≤ 2 → field x 15 ≤ 64 → field x 3 ≤ 67108864 → has_places (frame_at x) ≡ true → has_block (frame_at x) ≡ true
+    → has_runs (table_at (frame_at x)) 0 (frame_at x).runs ≡ true → IsFramed x
 unfolding has_places has_block frame_at
-framed x room few short places block runs =
+framed x room one two few short places block runs =
     let p7 = and_parts _ _ places in
     let p6 = and_parts _ _ p7.0 in
     let p5 = and_parts _ _ p6.0 in
@@ -120,6 +127,8 @@ framed x room few short places block runs =
     let b1 = and_parts _ _ b2.0 in
     record {
       room = room;
+      form_low = one;
+      form_high = two;
       few_runs = few;
       short_input = short;
       code = eqb-true _ _ p1.0;
@@ -134,57 +143,170 @@ framed x room few short places block runs =
       runs = runs;
     }
 
--- a run that an address lies in has its part of the table in front of the list
-pub record IsPlaced (f : Frame) (a : ℕ) (r : RunPlace) : Type 0 where
+-- the run that an address lies in has its part of the table
+pub record IsPlaced (t : TableAt) (a : ℕ) (r : RunPlace) : Type 0 where
   pub from : r.lo ≤ a
   pub below : a < r.lo + r.len
-  pub first : f.table.lo ≤ r.dir
-  pub last : r.dir + 4 * r.len ≤ f.list
+  pub part : has_part t r ≡ true
 
-placed_step : (f : Frame) (a : ℕ) (q r : RunPlace) (rest : Option RunPlace) (t : Bool) → within q.lo q.len a ≡ t → cond t (Some q) rest ≡ Some r
-    → f.table.lo ≤ q.dir → q.dir + 4 * q.len ≤ f.list → (rest ≡ Some r → IsPlaced f a r) → IsPlaced f a r
-placed_step f a q r rest true w h first last later =
+placed_step : (t : TableAt) (a : ℕ) (q r : RunPlace) (rest : Option RunPlace) (b : Bool) → within q.lo q.len a ≡ b → cond b (Some q) rest ≡ Some r
+    → has_part t q ≡ true → (rest ≡ Some r → IsPlaced t a r) → IsPlaced t a r
+placed_step t a q r rest true w h part later =
     let e : q ≡ r = cc h in
     let p = within_parts q.lo q.len a w in
-    subst (λ (s : RunPlace). IsPlaced f a s) e (record { from = p.0; below = p.1; first = first; last = last })
-placed_step f a q r rest false w h first last later = later h
+    subst (λ (s : RunPlace). IsPlaced t a s) e (record { from = p.0; below = p.1; part = part })
+placed_step t a q r rest false w h part later = later h
 
-pub placed_run : (f : Frame) (a from : ℕ) (rs : List RunPlace) (r : RunPlace) → has_runs f from rs ≡ true → run_of rs a ≡ Some r → IsPlaced f a r
+pub placed_run : (t : TableAt) (a from : ℕ) (rs : List RunPlace) (r : RunPlace) → has_runs t from rs ≡ true → run_of rs a ≡ Some r → IsPlaced t a r
 unfolding has_runs
-placed_run f a from [] r keeps h = absurd (cc h)
-placed_run f a from (q ∷ rs) r keeps h =
-    let k5 = and_parts _ _ keeps in
-    let k4 = and_parts _ _ k5.0 in
-    let k3 = and_parts _ _ k4.0 in
-    placed_step f a q r (run_of rs a) (within q.lo q.len a) refl h (leb-true _ _ k3.1) (leb-true _ _ k4.1) (λ later. placed_run f a (q.lo + q.len + 1) rs r k5.1 later)
+placed_run t a from [] r keeps h = absurd (cc h)
+placed_run t a from (q ∷ rs) r keeps h =
+    let k2 = and_parts _ _ keeps in
+    let k1 = and_parts _ _ k2.0 in
+    placed_step t a q r (run_of rs a) (within q.lo q.len a) refl h k1.1 (λ later. placed_run t a (q.lo + q.len + 1) rs r k2.1 later)
 
 -- ---- the entry of an address
 
-length-table_part : (x : List ℕ) → IsFramed x → length (frame_table (frame_at x)) ≡ field x 9
-unfolding frame_table frame_at
-length-table_part x is =
-    let place = code_place (field x 3) + up (field x 7) in
-    omega (arith, length-take (field x 9) (drop place x), length-drop place x, is.size)
+-- the parts of the table of a run, in each form
+pub record IsFlat (t : TableAt) (r : RunPlace) : Type 0 where
+  pub low : t.lo ≤ r.dir
+  pub high : r.dir + 4 * r.len ≤ t.list
 
--- the word of an address in a run lies in the table
-pub record HasWord (x : List ℕ) (f : Frame) (a : ℕ) (r : RunPlace) : Type 0 where
-  pub from : r.lo ≤ a
-  pub first : field x 8 ≤ r.dir
-  pub last : r.dir - field x 8 + 4 * (a - r.lo) + 4 ≤ length (frame_table f)
+pub flat_part : (t : TableAt) (r : RunPlace) → t.form ≡ 1 → has_part t r ≡ true → IsFlat t r
+unfolding has_part
+flat_part t r e h =
+    let one : eqb t.form 1 ≡ true = eq-eqb t.form 1 e in
+    let p = and_parts _ _ (rw one at h) in
+    record { low = leb-true _ _ p.0; high = leb-true _ _ p.1 }
 
-pub has_word : (x : List ℕ) (f : Frame) (a : ℕ) (r : RunPlace) → IsFramed x → frame_at x ≡ f → Some r ≡ run_of f.runs a → HasWord x f a r
-unfolding frame_at
-has_word x f a r is view h =
-    let found : run_of (frame_at x).runs a ≡ Some r = ap (λ (g : Frame). run_of g.runs a) view ∙ sym h in
-    let p = placed_run (frame_at x) a 0 (frame_at x).runs r is.runs found in
-    let len : length (frame_table f) ≡ field x 9 = ap (λ (g : Frame). length (frame_table g)) (sym view) ∙ length-table_part x is in
-    record { from = p.from; first = p.first; last = omega (arith, p.from, p.below, p.first, p.last, is.list, is.counters, len) }
+pub record IsPaged (t : TableAt) (r : RunPlace) : Type 0 where
+  pub low : t.lo ≤ r.dir
+  pub high : r.dir + 4 * group_count r.len ≤ t.list
+  pub pages : (g : ℕ) → g < group_count r.len → (t.lo ≤ page_named t.bytes t.lo r.dir g) × (page_named t.bytes t.lo r.dir g + 4096 ≤ t.list)
 
-pub entry_found : (x : List ℕ) (f : Frame) (a : ℕ) (r : RunPlace) → frame_at x ≡ f → Some r ≡ run_of f.runs a → frame_entry f a ≡ word_at (frame_table f) (r.dir - field x 8 + 4 * (a - r.lo))
-unfolding frame_entry frame_at
-entry_found x f a r view h =
-    ap (flat_word (frame_table f) f.table.lo a) (sym h) ∙ ap (λ (g : Frame). word_at (frame_table f) (r.dir - g.table.lo + 4 * (a - r.lo))) (sym view)
+listed : (test : ℕ → Bool) (i n g : ℕ) → list_all test (range_with_len i n) ≡ true → g < n → test (i + g) ≡ true
+listed test i zero g h lt = absurd (omega arith)
+listed test i (suc n) zero h lt = ap test (let e : i + 0 ≡ i = omega arith in e) ∙ (and_parts _ _ h).0
+listed test i (suc n) (suc g) h lt =
+    ap test (let e : i + suc g ≡ i + 1 + g = omega arith in e) ∙ listed test (i + 1) n g (and_parts _ _ h).1 (omega arith)
+
+page_there : (t : TableAt) (r : RunPlace) (g : ℕ) → has_pages t r ≡ true → g < group_count r.len → is_in_table t (page_named t.bytes t.lo r.dir g) 4096 ≡ true
+unfolding has_pages
+page_there t r g h lt =
+    let test : ℕ → Bool = λ k. is_in_table t (page_named t.bytes t.lo r.dir k) 4096 in
+    ap test (let e : g ≡ 0 + g = omega arith in e) ∙ listed test 0 (group_count r.len) g h lt
+
+pub paged_part : (t : TableAt) (r : RunPlace) → t.form ≢ 1 → has_part t r ≡ true → IsPaged t r
+unfolding has_part
+paged_part t r e h =
+    let no : eqb t.form 1 ≡ false = ne_eqb t.form 1 e in
+    let p = and_parts _ _ (rw no at h) in
+    let q = and_parts _ _ p.0 in
+    record {
+      low = leb-true _ _ q.0;
+      high = leb-true _ _ q.1;
+      pages = λ g lt. let s = and_parts _ _ (page_there t r g p.1 lt) in (leb-true _ _ s.0, leb-true _ _ s.1);
+    }
+
+-- the run that an address lies in, of a file that has a frame
+pub record IsFound (f : Frame) (a : ℕ) (r : RunPlace) : Type 0 where
+  pub placed : IsPlaced (table_at f) a r
+  pub run : Some r ≡ run_of f.runs a
+
+pub found_run : (x : List ℕ) (f : Frame) (a : ℕ) (r : RunPlace) → IsFramed x → frame_at x ≡ f → Some r ≡ run_of (frame_at x).runs a → IsFound f a r
+found_run x f a r is view h =
+    subst (λ (g : Frame). IsFound g a r) view
+    (record { placed = placed_run (table_at (frame_at x)) a 0 (frame_at x).runs r is.runs (sym h); run = h })
+
+no_run : (b : Bool) (table : List ℕ) (lo a : ℕ) (r : Option RunPlace) → None ≡ r → 0 ≡ cond b (flat_word table lo a r) (paged_word table lo a r)
+no_run true table lo a r h = ap (flat_word table lo a) h
+no_run false table lo a r h = ap (paged_word table lo a) h
 
 pub entry_none : (f : Frame) (a : ℕ) → None ≡ run_of f.runs a → 0 ≡ frame_entry f a
 unfolding frame_entry
-entry_none f a h = ap (flat_word (frame_table f) f.table.lo a) h
+entry_none f a h = no_run (eqb f.form 1) (frame_table f) f.table.lo a (run_of f.runs a) h
+
+pub entry_flat : (f : Frame) (a : ℕ) (r : RunPlace) → f.form ≡ 1 → Some r ≡ run_of f.runs a → frame_entry f a ≡ flat_word (frame_table f) f.table.lo a (Some r)
+unfolding frame_entry
+entry_flat f a r e h =
+    let one : eqb f.form 1 ≡ true = eq-eqb f.form 1 e in
+    ap (λ b. cond b (flat_word (frame_table f) f.table.lo a (run_of f.runs a)) (paged_word (frame_table f) f.table.lo a (run_of f.runs a))) one
+    ∙ ap (flat_word (frame_table f) f.table.lo a) (sym h)
+
+pub entry_paged : (f : Frame) (a : ℕ) (r : RunPlace) → f.form ≢ 1 → Some r ≡ run_of f.runs a → frame_entry f a ≡ paged_word (frame_table f) f.table.lo a (Some r)
+unfolding frame_entry
+entry_paged f a r e h =
+    let no : eqb f.form 1 ≡ false = ne_eqb f.form 1 e in
+    ap (λ b. cond b (flat_word (frame_table f) f.table.lo a (run_of f.runs a)) (paged_word (frame_table f) f.table.lo a (run_of f.runs a))) no
+    ∙ ap (paged_word (frame_table f) f.table.lo a) (sym h)
+
+-- ---- the pages of a directory, group by group
+
+abbrev pub page_test : TableAt → RunPlace → ℕ → Bool
+page_test t r g = is_in_table t (page_named t.bytes t.lo r.dir g) 4096
+
+-- those from the i-th on of n
+unfoldable pub pages_from : TableAt → RunPlace → ℕ → ℕ → Bool
+pages_from t r i n = list_all (page_test t r) (range_with_len i (n - i))
+
+pub pages_first : (t : TableAt) (r : RunPlace) (n : ℕ) → n ≡ group_count r.len → has_pages t r ≡ pages_from t r 0 n
+unfolding has_pages pages_from
+pages_first t r n e = ap (λ k. list_all (page_test t r) (range_with_len 0 k)) (let all : group_count r.len ≡ n - 0 = omega arith in all)
+
+pages_next : (t : TableAt) (r : RunPlace) (i n : ℕ) → i < n → pages_from t r i n ≡ (page_test t r i && pages_from t r (i + 1) n)
+unfolding pages_from
+pages_next t r i n lt = ap (λ k. list_all (page_test t r) (range_with_len i k)) (let more : n - i ≡ suc (n - (i + 1)) = omega arith in more)
+
+pub page_fails : (t : TableAt) (r : RunPlace) (all : Bool) (i n : ℕ) → i < n → all ≡ pages_from t r i n → page_test t r i ≡ false → false ≡ all
+page_fails t r all i n lt same fails = sym (same ∙ (pages_next t r i n lt ∙ ap (λ s. s && pages_from t r (i + 1) n) fails))
+
+pub page_holds : (t : TableAt) (r : RunPlace) (all : Bool) (i n : ℕ) → i < n → all ≡ pages_from t r i n → page_test t r i ≡ true → all ≡ pages_from t r (i + 1) n
+page_holds t r all i n lt same holds = same ∙ (pages_next t r i n lt ∙ ap (λ s. s && pages_from t r (i + 1) n) holds)
+
+pub pages_end : (t : TableAt) (r : RunPlace) (all : Bool) (i n : ℕ) → n ≤ i → all ≡ pages_from t r i n → true ≡ all
+unfolding pages_from
+pages_end t r all i n le same = sym (same ∙ ap (λ k. list_all (page_test t r) (range_with_len i k)) (let none : n - i ≡ 0 = omega arith in none))
+
+-- ---- what a look-up reads, in each form
+
+pub record ReadsFlat (f : Frame) (t : TableAt) (a : ℕ) (r : RunPlace) : Type 0 where
+  pub from : r.lo ≤ a
+  pub low : t.lo ≤ r.dir
+  pub high : r.dir + 4 * (a - r.lo) + 4 ≤ t.list
+  pub entry : frame_entry f a ≡ word_at t.bytes (r.dir - t.lo + 4 * (a - r.lo))
+
+pub reads_flat : (f : Frame) (t : TableAt) (a : ℕ) (r : RunPlace) → IsFound f a r → t ≡ table_at f → t.form ≡ 1 → ReadsFlat f t a r
+reads_flat f t a r found is one =
+    let form : f.form ≡ 1 = ap (λ (u : TableAt). u.form) (sym is) ∙ one in
+    let part = flat_part (table_at f) r form found.placed.part in
+    subst (λ (u : TableAt). ReadsFlat f u a r) (sym is) (record {
+      from = found.placed.from;
+      low = part.low;
+      high = omega (arith, part.high, found.placed.from, found.placed.below);
+      entry = entry_flat f a r form found.run;
+    })
+
+pub record ReadsPage (f : Frame) (t : TableAt) (a : ℕ) (r : RunPlace) : Type 0 where
+  pub from : r.lo ≤ a
+  pub below : a < r.lo + r.len
+  pub low : t.lo ≤ r.dir
+  pub high : r.dir + 4 * group_count r.len ≤ t.list
+  pub page_low : t.lo ≤ page_at t.bytes t.lo r.dir (a - r.lo)
+  pub page_high : page_at t.bytes t.lo r.dir (a - r.lo) + 4096 ≤ t.list
+  pub entry : frame_entry f a ≡ word_at t.bytes (page_at t.bytes t.lo r.dir (a - r.lo) - t.lo + 4 * ((a - r.lo) % 1024))
+
+pub reads_page : (f : Frame) (t : TableAt) (a : ℕ) (r : RunPlace) → IsFound f a r → t ≡ table_at f → t.form ≢ 1 → ReadsPage f t a r
+reads_page f t a r found is other =
+    let form : f.form ≢ 1 = λ e. other (ap (λ (u : TableAt). u.form) is ∙ e) in
+    let part = paged_part (table_at f) r form found.placed.part in
+    let group : (a - r.lo) / 1024 < group_count r.len = omega (arith, found.placed.from, found.placed.below) in
+    let page = part.pages ((a - r.lo) / 1024) group in
+    subst (λ (u : TableAt). ReadsPage f u a r) (sym is) (record {
+      from = found.placed.from;
+      below = found.placed.below;
+      low = part.low;
+      high = part.high;
+      page_low = page.0;
+      page_high = page.1;
+      entry = entry_paged f a r form found.run;
+    })

@@ -1,16 +1,17 @@
 -- The frame of a file: what its record says was added to what. This project's own format.
-use Rattle.std.specs.Prelude.{ℕ, ◌+◌, ◌-◌, ◌*◌, ◌%◌, Bool, true, ◌&&◌, List, [], ◌∷◌, length, take, drop, map, Option, Some, None, nat_lt, nat_le, ◌==◌, if◌then◌else◌}
-use Rattle.std.specs.List.{range_with_len, sum_by}
+use Rattle.std.specs.Prelude.{ℕ, ◌+◌, ◌-◌, ◌*◌, ◌%◌, Bool, true, ◌&&◌, ◌||◌, List, [], ◌∷◌, length, take, drop, map, Option, Some, None, nat_lt, nat_le, ◌==◌, if◌then◌else◌}
+use Rattle.std.specs.List.{range_with_len, sum_by, list_all}
 use Rattle.mv_base.specs.Span.{Span}
 use Rattle.mv_base.specs.Bytes.{word_at}
 use Rattle.mv_base.specs.Memory.{within}
-use Rattle.mv_base.specs.Table.{flat_entry, entry_or}
+use Rattle.mv_base.specs.Table.{group_count, page_named, entry_at, entry_or}
 use Rattle.mv_base.specs.declared.range.RunPlace.{RunPlace}
 use Rattle.elf32_write.specs.Format.{up, private_len}
-use Rattle.elf32_write.specs.File.{head_len, record_place, frame_magic, frame_version, table_form, code_place}
+use Rattle.elf32_write.specs.File.{head_len, record_place, frame_magic, frame_version, code_place}
 
 -- the ranges, places and counts that a record names, with the file whose record it is
 pub record Frame : Type 0 where
+  pub form : ℕ
   pub input_len : ℕ
   pub added : Span
   pub code : Span
@@ -37,6 +38,7 @@ run_place_at x i = record { lo = field x (fixed_words + 3 * i); len = field x (f
 -- the frame that a record spells, whether or not it keeps the rules
 unfoldable pub frame_at : List ℕ → Frame
 frame_at x = record {
+  form = field x 2;
   input_len = field x 3;
   added = record { lo = field x 4; len = field x 5 };
   code = record { lo = field x 6; len = field x 7 };
@@ -50,13 +52,13 @@ frame_at x = record {
   file = x;
 }
 
--- magic, version and form agree, and the counts are within their limits
+-- magic and version agree, the form is 1 or 2, and the counts are within their limits
 unfoldable pub has_record : List ℕ → Bool
 has_record x =
     nat_le head_len (length x)
     && field x 0 == frame_magic
     && field x 1 == frame_version
-    && field x 2 == table_form
+    && (field x 2 == 1 || field x 2 == 2)
     && nat_le (field x 15) 64
     && nat_le (field x 3) 67108864
 
@@ -79,29 +81,6 @@ has_block f =
     && f.added.lo % 4096 == 0
     && nat_le (f.added.lo + f.added.len) 0xB0000000
 
--- runs ascend from an address on and leave a gap between any two, have a length, end at most at 0xFFFFF000, and their
--- parts of the table lie in it before the list
-unfoldable pub has_runs : Frame → ℕ → List RunPlace → Bool
-has_runs f from [] = true
-has_runs f from (r ∷ rs) =
-    nat_le from r.lo
-    && nat_lt 0 r.len
-    && nat_le (r.lo + r.len) 0xFFFFF000
-    && nat_le f.table.lo r.dir
-    && nat_le (r.dir + 4 * r.len) f.list
-    && has_runs f (r.lo + r.len + 1) rs
-
--- the runs have at most 4 MiB together
-abbrev pub has_size : Frame → Bool
-has_size f = nat_le (sum_by (λ r. r.len) f.runs) 4194304
-
-abbrev pub keeps_rules : Frame → Bool
-keeps_rules f = has_places f && has_block f && has_runs f 0 f.runs && has_size f
-
--- the frame of a file, where its record keeps the rules
-unfoldable pub frame : List ℕ → Option Frame
-frame x = if has_record x && keeps_rules (frame_at x) then Some (frame_at x) else None
-
 -- the input, the code, and the table with the list of counted sites
 abbrev pub frame_input : Frame → List ℕ
 frame_input f = take f.input_len (drop head_len f.file)
@@ -112,9 +91,52 @@ frame_code f = take f.code.len (drop (code_place f.input_len) f.file)
 unfoldable pub frame_table : Frame → List ℕ
 frame_table f = take f.table.len (drop (code_place f.input_len + up f.code.len) f.file)
 
+-- a table: its form, its bytes, their address, and the address of the list behind them
+pub record TableAt : Type 0 where
+  pub form : ℕ
+  pub bytes : List ℕ
+  pub lo : ℕ
+  pub list : ℕ
+
+abbrev pub table_at : Frame → TableAt
+table_at f = record { form = f.form; bytes = frame_table f; lo = f.table.lo; list = f.list }
+
+-- n addresses from one on lie in a table before its list
+abbrev pub is_in_table : TableAt → ℕ → ℕ → Bool
+is_in_table t at n = nat_le t.lo at && nat_le (at + n) t.list
+
+-- each page that the directory of a run names lies there
+unfoldable pub has_pages : TableAt → RunPlace → Bool
+has_pages t r = list_all (λ g. is_in_table t (page_named t.bytes t.lo r.dir g) 4096) (range_with_len 0 (group_count r.len))
+
+-- a run's part of the table lies there: its words in form 1, its directory and the pages named in form 2
+unfoldable pub has_part : TableAt → RunPlace → Bool
+has_part t r =
+    if t.form == 1 then is_in_table t r.dir (4 * r.len) else is_in_table t r.dir (4 * group_count r.len) && has_pages t r
+
+-- a run begins at an address or above it, has a length and ends at most at 0xFFFFF000
+abbrev pub is_run : ℕ → RunPlace → Bool
+is_run from r = nat_le from r.lo && nat_lt 0 r.len && nat_le (r.lo + r.len) 0xFFFFF000
+
+-- runs ascend from an address on and leave a gap between any two, and their parts of the table lie in it before the list
+unfoldable pub has_runs : TableAt → ℕ → List RunPlace → Bool
+has_runs t from [] = true
+has_runs t from (r ∷ rs) = is_run from r && has_part t r && has_runs t (r.lo + r.len + 1) rs
+
+-- the runs have at most 4 MiB together
+abbrev pub has_size : List RunPlace → Bool
+has_size rs = nat_le (sum_by (λ r. r.len) rs) 4194304
+
+abbrev pub keeps_rules : Frame → Bool
+keeps_rules f = has_places f && has_block f && has_size f.runs && has_runs (table_at f) 0 f.runs
+
+-- the frame of a file, where its record keeps the rules
+unfoldable pub frame : List ℕ → Option Frame
+frame x = if has_record x && keeps_rules (frame_at x) then Some (frame_at x) else None
+
 -- an address's entry, or 0
 unfoldable pub frame_entry : Frame → ℕ → ℕ
-frame_entry f a = flat_entry (frame_table f) f.table.lo f.runs a
+frame_entry f a = entry_at f.form (frame_table f) f.table.lo f.runs a
 
 -- where an address goes: its entry where that isn't 0, else itself
 abbrev pub frame_map : Frame → ℕ → ℕ

@@ -1,18 +1,14 @@
 -- The rules of a frame record, word by word. This project's own format.
-use Rattle.std.specs.Prelude.{◌≡◌, ℕ, ◌+◌, ◌-◌, ◌*◌, ◌≤◌, Bool, true, ◌&&◌, List, length, nat_lt, nat_le}
-use Rattle.mv_base.specs.declared.range.RunPlace.{RunPlace}
+use Rattle.std.specs.Prelude.{◌≡◌, ℕ, ◌+◌, ◌-◌, ◌*◌, ◌≤◌, true, List, length}
 use Rattle.elf32_write.specs.Format.{up, private_len}
 use Rattle.elf32_write.specs.File.{code_place}
-use Rattle.elf32_write.specs.Frame.{field, frame_at, has_runs}
-
--- a run that begins at an address or above it keeps the rules, for a table and its list at these addresses
-abbrev pub is_run : ℕ → ℕ → ℕ → RunPlace → Bool
-is_run table list from r =
-    nat_le from r.lo && nat_lt 0 r.len && nat_le (r.lo + r.len) 0xFFFFF000 && nat_le table r.dir && nat_le (r.dir + 4 * r.len) list
+use Rattle.elf32_write.specs.Frame.{field, frame_at, table_at, has_runs}
 
 -- what is known of the record of a file that has a frame
 pub record IsFramed (x : List ℕ) : Type 0 where
   pub room : 0x1000 ≤ length x
+  pub form_low : 1 ≤ field x 2
+  pub form_high : field x 2 ≤ 2
   pub few_runs : field x 15 ≤ 64
   pub short_input : field x 3 ≤ 67108864
   pub code : field x 6 ≡ field x 4
@@ -24,4 +20,4 @@ pub record IsFramed (x : List ℕ) : Type 0 where
   pub added : field x 5 ≡ up (field x 7) + up (field x 9) + up (private_len (field x 13))
   pub size : length x ≡ code_place (field x 3) + up (field x 7) + up (field x 9)
   pub low : field x 4 + field x 5 ≤ 0xB0000000
-  pub runs : has_runs (frame_at x) 0 (frame_at x).runs ≡ true
+  pub runs : has_runs (table_at (frame_at x)) 0 (frame_at x).runs ≡ true

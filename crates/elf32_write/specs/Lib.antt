@@ -4,6 +4,9 @@ pub mod File
 pub mod Writing
 pub mod Frame
 pub mod Framing
+pub mod Plans
 -- what holds of them, for the proofs of this crate and of the crates above
-pub mod Words
 pub mod Within
+pub mod Parts
+pub mod Written
+pub mod ReadBack

@@ -7,6 +7,7 @@ ghost use Rattle.std.specs.Prelude.{◌≡◌, ◌+◌, ◌≤◌, ◌++◌, [],
 ghost use Rattle.elf32_write.specs.File.{head, file_of, padded, table_of, code_place};
 ghost use Rattle.elf32_write.specs.Format.{up as up_of};
 ghost use Rattle.elf32_write.specs.Writing.{HasHead, EndsLow, front};
+ghost use Rattle.elf32_write.specs.Plans.{KeepsRules, ReadsBack};
 
 mod block;
 pub mod format;
@@ -41,7 +42,11 @@ pub fn write_image(
     requires input { length input.now ≤ 67108864 }
     requires runs { length plan.now.runs ≤ 64 }
     requires block { EndsLow plan.now }
-    ensures { IfOk result (λ file. file.items ≡ file_of input.now plan.now) }
+    ensures file { IfOk result (λ file. file.items ≡ file_of input.now plan.now) }
+
+    // The frame that is read from the file is the plan, where the plan keeps the rules of a frame.
+    ensures reads_back { KeepsRules plan.now →
+        IfOk result (λ file. ReadsBack input.now plan.now file.items) }
 {
     let mut file = Vec::with_capacity(alloc, file_len(input, plan))?;
     put_head(image, input, plan, &mut file)?;
@@ -55,7 +60,8 @@ pub fn write_image(
 fn file_len(input: &[u8], plan: &Plan) -> usize
     requires input { length input.now ≤ 67108864 }
     requires block { EndsLow plan.now }
-    ensures { result ≡ code_place (length input.now) + up_of (length plan.now.code) + up_of (length (table_of plan.now)) }
+    ensures { result ≡ code_place (length input.now)
+        + up_of (length plan.now.code) + up_of (length (table_of plan.now)) }
 {
     HEAD_LEN as usize + up(input.len()) + up(plan.code.len()) + up(table_len(plan) as usize)
 }
@@ -68,7 +74,8 @@ fn put_head(image: &Image, input: &[u8], plan: &Plan, file: &mut Vec<u8>) -> Res
     requires runs { length plan.now.runs ≤ 64 }
     requires block { EndsLow plan.now }
     requires empty { file.old.items ≡ [] }
-    ensures { OnOk result (file.new.items ≡ head input.now plan.now) }
+    ensures head { OnOk result (file.new.items ≡ head input.now plan.now) }
+    ensures ident { OnOk result (length image.now.ident ≡ 9) }
 {
     put_front(image, input, plan, file)?;
     put_zeros(RECORD_PLACE - file.len(), file)?;
@@ -84,7 +91,8 @@ fn put_front(image: &Image, input: &[u8], plan: &Plan, file: &mut Vec<u8>) -> Re
     requires input { length input.now ≤ 67108864 }
     requires block { EndsLow plan.now }
     requires empty { file.old.items ≡ [] }
-    ensures { OnOk result (file.new.items ≡ front input.now plan.now) }
+    ensures front { OnOk result (file.new.items ≡ front input.now plan.now) }
+    ensures ident { OnOk result (length image.now.ident ≡ 9) }
 {
     let added = added_headers(input.len() as u32, plan);
     let count = (image.headers.len() + added.len()) as u16;

@@ -5,19 +5,24 @@
 ghost use Rattle.std.specs.Prelude.{◌≡◌, ◌+◌, ◌-◌, ◌*◌, ◌<◌, ◌≤◌, ◌==◌, length, take, slice_get, if◌then◌else◌};
 ghost use Rattle.mv_base.specs.Memory.{within};
 ghost use Rattle.mv_base.specs.Table.{run_of};
-ghost use Rattle.elf32_write.specs.Frame.{field as field_of, frame, frame_at, frame_input, frame_code, frame_table, frame_entry, frame_map, counted_at as counted_address, counter_place as place_of_counter};
+ghost use Rattle.elf32_write.specs.Format.{up as up_of};
+ghost use Rattle.elf32_write.specs.File.{code_place as place_of_code};
+ghost use Rattle.elf32_write.specs.Frame.{field as field_of, frame, frame_at, table_at, frame_input, frame_code, frame_table, frame_entry, frame_map, counted_at as counted_address, counter_place as place_of_counter};
 
 mod fields;
 mod rules;
+mod table;
 #[cfg(test)]
 mod tests;
 
+use crate::file::format::FLAT_FORM;
 use crate::frame::fields::{
-    ADDED_LEN, ADDED_LO, CODE_LEN, CODE_LO, COUNTER_COUNT, FIRST_COUNTER, HEAD, INPUT_LEN, LIST,
-    PRIVATE_LO, RUN_COUNT, TABLE_LEN, TABLE_LO, code_place, field, part, run_place, table_place,
-    word,
+    ADDED_LEN, ADDED_LO, CODE_LEN, CODE_LO, COUNTER_COUNT, FIRST_COUNTER, FORM, HEAD, INPUT_LEN,
+    LIST, PRIVATE_LO, RUN_COUNT, TABLE_LEN, TABLE_LO, code_place, field, part, run_place,
+    table_place, word,
 };
 use crate::frame::rules::{has_block, has_places, has_record, has_runs, has_size};
+use crate::frame::table::Table;
 use mv_base::{Range, RunPlace};
 use std::marker::Model;
 
@@ -38,6 +43,24 @@ impl<'a> Model for Frame<'a> {
     ghost invariant = { λ f. IsFramed f.file.now };
 }
 
+/// The table of a file with a record.
+#[tactic(auto, unfolding(crate::specs::Frame::frame_at, crate::specs::Frame::frame_table))]
+fn table_in(file: &[u8]) -> Table<'_>
+    requires room { 0x1000 ≤ length file.now }
+    requires list { field_of file.now 14 ≤ field_of file.now 8 + field_of file.now 9 }
+    requires table { place_of_code (field_of file.now 3)
+        + up_of (field_of file.now 7) + field_of file.now 9 ≤ length file.now }
+    ensures { result ≡ table_at (frame_at file.now) }
+{
+    let len = field(file, TABLE_LEN) as usize;
+    Table {
+        form: field(file, FORM),
+        bytes: part(file, table_place(file), len),
+        lo: field(file, TABLE_LO),
+        list: field(file, LIST),
+    }
+}
+
 /// The frame of a file; `None` exactly where a rule of the record is not kept.
 #[tactic(auto, unfolding(crate::specs::Frame::frame))]
 pub fn read_frame(file: &[u8]) -> Option<Frame<'_>>
@@ -52,10 +75,10 @@ pub fn read_frame(file: &[u8]) -> Option<Frame<'_>>
     if !has_block(file) {
         return None;
     }
-    if !has_runs(file) {
+    if !has_size(file) {
         return None;
     }
-    if !has_size(file) {
+    if !has_runs(file, &table_in(file)) {
         return None;
     }
     Some(Frame { file })
@@ -63,6 +86,15 @@ pub fn read_frame(file: &[u8]) -> Option<Frame<'_>>
 
 #[tactic(auto, unfolding(crate::specs::Frame::frame_at, crate::specs::Frame::frame_table))]
 impl Frame<'_> {
+    /// The number of the table's form.
+    pub fn form(&self) -> u8
+        ensures value { result ≡ self.now.form }
+        ensures low { 1 ≤ result }
+        ensures high { result ≤ 2 }
+    {
+        field(self.file, FORM) as u8
+    }
+
     /// The input, whole.
     pub fn input(&self) -> &[u8]
         ensures { result.now ≡ frame_input self.now }
@@ -96,14 +128,10 @@ impl Frame<'_> {
     }
 
     /// The table with the list of counted sites.
-    fn table_and_list(&self) -> &[u8]
-        ensures { result.now ≡ frame_table self.now }
+    fn table(&self) -> Table<'_>
+        ensures { result ≡ table_at self.now }
     {
-        part(
-            self.file,
-            table_place(self.file),
-            field(self.file, TABLE_LEN) as usize,
-        )
+        table_in(self.file)
     }
 
     /// The table without the list of counted sites.
@@ -111,7 +139,7 @@ impl Frame<'_> {
         ensures { result.now ≡ take (self.now.list - self.now.table.lo) (frame_table self.now) }
     {
         let len = field(self.file, LIST) - field(self.file, TABLE_LO);
-        &self.table_and_list()[..len as usize]
+        &self.table().bytes[..len as usize]
     }
 
     /// The address of the private area.
@@ -123,7 +151,8 @@ impl Frame<'_> {
 
     /// How many runs the input has.
     pub fn run_count(&self) -> u32
-        ensures { result ≡ length self.now.runs }
+        ensures value { result ≡ length self.now.runs }
+        ensures few { result ≤ 64 }
     {
         field(self.file, RUN_COUNT)
     }
@@ -149,7 +178,7 @@ impl Frame<'_> {
         ensures { result ≡ counted_address self.now index }
     {
         let list = (field(self.file, LIST) - field(self.file, TABLE_LO)) as usize;
-        word(self.table_and_list(), list + 4 * index as usize)
+        word(self.table().bytes, list + 4 * index as usize)
     }
 
     /// The address of the counter of counted site `index`, counted from 0.
@@ -160,28 +189,25 @@ impl Frame<'_> {
         field(self.file, FIRST_COUNTER) + 8 * index
     }
 
-    /// The run in which an address lies.
-    fn run_of(&self, address: u32) -> Option<RunPlace>
-        ensures { result ≡ run_of self.now.runs address }
-    {
-        run_with(self.file, address)
-    }
-
     /// The word for an address, or 0 where it lies in no run.
     fn entry_word(&self, address: u32) -> u32
         ensures { result ≡ frame_entry self.now address }
     {
-        let Some(found) = self.run_of(address) else {
+        let Some(run) = run_with(self.file, address) else {
             return 0;
         };
-        let place = (found.dir - field(self.file, TABLE_LO)) as usize
-            + 4 * (address - found.lo) as usize;
-        word(self.table_and_list(), place)
+        let table = self.table();
+        if table.form == FLAT_FORM {
+            return table.flat_word(&run, address);
+        }
+        let page = table.page_of(&run, address);
+        table.word_in_page(page, &run, address)
     }
 
     /// The new address of an address; `None` exactly where it lies in no run or its entry is 0.
     pub fn entry(&self, address: u32) -> Option<u32>
-        ensures { result ≡ (if frame_entry self.now address == 0 then None else Some (frame_entry self.now address)) }
+        ensures { result ≡ (if frame_entry self.now address == 0
+            then None else Some (frame_entry self.now address)) }
     {
         match self.entry_word(address) {
             0 => None,

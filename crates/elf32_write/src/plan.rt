@@ -50,10 +50,20 @@ impl RunPlaces {
     }
 }
 
-/// The added block: where it starts, its code, its table without the list of counted sites, that list, the
-/// runs with their directories, and where the output starts.
+/// The form of a table from old to new addresses.
+#[derive(Clone, Copy, Debug, PartialEq, Eq)]
+pub enum Form {
+    /// Form 1: for each run one word an address.
+    Flat,
+    /// Form 2: for each run a directory of pages, of 1,024 words each.
+    Paged,
+}
+
+/// The added block: the form of its table, where it starts, its code, its table without the list of counted sites,
+/// that list, the runs with their directories, and where the output starts.
 #[derive(Drop)]
 pub struct Plan {
+    pub form: Form,
     pub base: u32,
     pub code: Bytes,
     pub table: Bytes,

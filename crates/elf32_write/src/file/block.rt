@@ -3,13 +3,15 @@
 ghost use Rattle.std.specs.Prelude.{◌≡◌, ◌+◌, ◌*◌, ◌≤◌, ◌++◌, length, OnOk};
 ghost use Rattle.std.specs.List.{flat_map};
 ghost use Rattle.mv_base.specs.Bytes.{words};
-ghost use Rattle.elf32_write.specs.File.{added_header as header_of_block, added_headers as headers_of_block, added_len as len_of_block, table_of, table_lo as lo_of_table, private_lo as lo_of_private, list_lo as lo_of_list, code_place as place_of_code, place_words, record_words as words_of_record};
+ghost use Rattle.elf32_write.specs.File.{added_header as header_of_block, added_headers as headers_of_block, added_len as len_of_block, table_of, table_lo as lo_of_table, private_lo as lo_of_private, list_lo as lo_of_list, code_place as place_of_code, place_words, form_number as number_of_form, record_words as words_of_record};
 ghost use Rattle.elf32_write.specs.Writing.{EndsLow, record_front};
 
-use crate::file::format::{FRAME_MAGIC, FRAME_VERSION, HEAD_LEN, PRIVATE_LEN, TABLE_FORM};
+use crate::file::format::{
+    FLAT_FORM, FRAME_MAGIC, FRAME_VERSION, HEAD_LEN, PAGED_FORM, PRIVATE_LEN,
+};
 use crate::file::head::{PT_LOAD, SEGMENT_ALIGN};
 use crate::file::part::{put_words, up};
-use crate::plan::Plan;
+use crate::plan::{Form, Plan};
 use elf32_read::Phdr;
 use mv_base::{NoMemory, RunPlace};
 
@@ -114,6 +116,16 @@ pub fn added_headers(input_len: u32, plan: &Plan) -> [Phdr; 3]
     ]
 }
 
+/// The number of a form of a table in the record.
+fn form_number(form: Form) -> u32
+    ensures { result ≡ number_of_form form }
+{
+    match form {
+        Form::Flat => FLAT_FORM,
+        Form::Paged => PAGED_FORM,
+    }
+}
+
 /// The words of the frame record before its runs, behind an input of this length.
 #[tactic(auto, using(crate::proofs::HeadBytes::length_table))]
 fn record_words(input_len: u32, plan: &Plan) -> [u32; 16]
@@ -121,6 +133,7 @@ fn record_words(input_len: u32, plan: &Plan) -> [u32; 16]
     requires runs { length plan.now.runs ≤ 64 }
     ensures { result ≡ record_front input_len plan.now }
 {
+    let form = form_number(plan.form);
     let private = private_lo(plan);
     let added = added_len(plan);
     let table = table_lo(plan);
@@ -129,7 +142,7 @@ fn record_words(input_len: u32, plan: &Plan) -> [u32; 16]
     [
         FRAME_MAGIC,
         FRAME_VERSION,
-        TABLE_FORM,
+        form,
         input_len,
         plan.base,
         added,
@@ -160,7 +173,8 @@ fn put_places(places: &[RunPlace], to: &mut Vec<u8>) -> Result<(), NoMemory>
 pub fn put_record(input_len: u32, plan: &Plan, to: &mut Vec<u8>) -> Result<(), NoMemory>
     requires block { EndsLow plan.now }
     requires runs { length plan.now.runs ≤ 64 }
-    ensures { OnOk result (to.new.items ≡ to.old.items ++ words (words_of_record input_len plan.now)) }
+    ensures { OnOk result (to.new.items ≡ to.old.items
+        ++ words (words_of_record input_len plan.now)) }
 {
     put_words(&record_words(input_len, plan), to)?;
     put_places(plan.runs.as_slice(), to)?;

@@ -12,8 +12,10 @@ pub const FRAME_MAGIC: u32 = 0x5246_564D;
 /// The version of the frame record that is written and read.
 pub const FRAME_VERSION: u32 = 1;
 
-/// The form of the table that is written and read.
-pub const TABLE_FORM: u32 = 1;
+/// The numbers of the two forms of a table in the record.
+pub const FLAT_FORM: u32 = 1;
+
+pub const PAGED_FORM: u32 = 2;
 
 /// How many bytes the private area has before its counters.
 pub const PRIVATE_LEN: u32 = 64;

@@ -38,7 +38,9 @@ pub fn put_elf_header(
     count: u16,
     to: &mut Vec<u8>,
 ) -> Result<(), NoMemory>
-    ensures { OnOk result (to.new.items ≡ to.old.items ++ header_bytes image.now.ident image.now.e_flags entry count) }
+    ensures bytes { OnOk result (to.new.items ≡ to.old.items
+        ++ header_bytes image.now.ident image.now.e_flags entry count) }
+    ensures ident { OnOk result (length image.now.ident ≡ 9) }
 {
     to.extend_from_slice(&IDENT)?;
     to.extend_from_slice(&image.ident)?;
@@ -91,7 +93,8 @@ fn kept_header(header: &Phdr) -> Phdr
 
 /// Appends program headers.
 fn put_headers(headers: &[Phdr], to: &mut Vec<u8>) -> Result<(), NoMemory>
-    ensures { OnOk result (to.new.items ≡ to.old.items ++ words (flat_map words_of_header headers.now)) }
+    ensures { OnOk result (to.new.items ≡ to.old.items
+        ++ words (flat_map words_of_header headers.now)) }
 {
     for header in headers {
         put_words(&header_words(header), to)?;
@@ -101,7 +104,8 @@ fn put_headers(headers: &[Phdr], to: &mut Vec<u8>) -> Result<(), NoMemory>
 
 /// Appends headers of the input, each as it is in the output.
 fn put_kept_headers(headers: &[Phdr], to: &mut Vec<u8>) -> Result<(), NoMemory>
-    ensures { OnOk result (to.new.items ≡ to.old.items ++ words (flat_map words_of_header (map kept_of headers.now))) }
+    ensures { OnOk result (to.new.items ≡ to.old.items
+        ++ words (flat_map words_of_header (map kept_of headers.now))) }
 {
     for header in headers {
         put_words(&header_words(&kept_header(header)), to)?;
@@ -135,7 +139,8 @@ pub fn put_all_headers(
     headers: &[Phdr],
     to: &mut Vec<u8>,
 ) -> Result<(), NoMemory>
-    ensures { OnOk result (to.new.items ≡ to.old.items ++ words (flat_map words_of_header (with_added base added.now headers.now))) }
+    ensures { OnOk result (to.new.items ≡ to.old.items
+        ++ words (flat_map words_of_header (with_added base added.now headers.now))) }
 {
     let place = added_place(base, headers);
     put_kept_headers(&headers[..place], to)?;

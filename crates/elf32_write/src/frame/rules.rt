@@ -1,16 +1,18 @@
 //! The rules of a frame record. Sums of addresses are taken in 64 bits.
 
-ghost use Rattle.std.specs.Prelude.{◌≡◌, ◌+◌, ◌≤◌, length, IsTrue, true};
-ghost use Rattle.elf32_write.specs.Frame.{field as field_of, frame_at, has_record as has_record_of, has_places as has_places_of, has_block as has_block_of, has_runs as has_runs_of, has_size as has_size_of};
-ghost use Rattle.elf32_write.specs.Framing.{is_run as is_run_of};
+ghost use Rattle.std.specs.Prelude.{◌≡◌, ◌+◌, ◌≤◌, ◌==◌, ◌||◌, length, IsTrue};
+ghost use Rattle.elf32_write.specs.Format.{up as up_of};
+ghost use Rattle.elf32_write.specs.File.{code_place as place_of_code};
+ghost use Rattle.elf32_write.specs.Frame.{field as field_of, frame_at, has_record as has_record_of, has_places as has_places_of, has_block as has_block_of, is_run as is_run_of, has_runs as has_runs_of, has_size as has_size_of};
 
-use crate::file::format::{FRAME_MAGIC, FRAME_VERSION, PRIVATE_LEN, TABLE_FORM};
+use crate::file::format::{FLAT_FORM, FRAME_MAGIC, FRAME_VERSION, PAGED_FORM, PRIVATE_LEN};
 use crate::file::part::up;
 use crate::frame::fields::{
     ADDED_LEN, ADDED_LO, CODE_LEN, CODE_LO, COUNTER_COUNT, FIRST_COUNTER, FORM, HEAD, INPUT_LEN,
     LIST, MAGIC, PRIVATE_LO, PRIVATE_SIZE, RUN_COUNT, TABLE_LEN, TABLE_LO, VERSION, field,
     run_place, table_place,
 };
+use crate::frame::table::Table;
 use mv_base::RunPlace;
 
 /// The most runs that a record has.
@@ -28,11 +30,22 @@ const BLOCK_END: usize = 0xB000_0000;
 /// The end of the addresses that a run may have.
 const RUN_END: u64 = 0xFFFF_F000;
 
+/// Whether a number is that of a form of a table.
+fn is_form(number: u32) -> bool
+    ensures value { result ≡ (number == 1 || number == 2) }
+    ensures low { IsTrue result → 1 ≤ number }
+    ensures high { IsTrue result → number ≤ 2 }
+{
+    number == FLAT_FORM || number == PAGED_FORM
+}
+
 /// Whether the file has room for a record, and magic, version, form and the two limits agree.
 #[tactic(auto, unfolding(crate::specs::Frame::has_record))]
 pub fn has_record(file: &[u8]) -> bool
     ensures value { result ≡ has_record_of file.now }
     ensures room { IsTrue result → 0x1000 ≤ length file.now }
+    ensures form_low { IsTrue result → 1 ≤ field_of file.now 2 }
+    ensures form_high { IsTrue result → field_of file.now 2 ≤ 2 }
     ensures runs { IsTrue result → field_of file.now 15 ≤ 64 }
     ensures input { IsTrue result → field_of file.now 3 ≤ 67108864 }
 {
@@ -45,7 +58,7 @@ pub fn has_record(file: &[u8]) -> bool
     if field(file, VERSION) != FRAME_VERSION {
         return false;
     }
-    if field(file, FORM) != TABLE_FORM {
+    if !is_form(field(file, FORM)) {
         return false;
     }
     if field(file, RUN_COUNT) > MOST_RUNS {
@@ -59,7 +72,9 @@ pub fn has_record(file: &[u8]) -> bool
 #[tactic(auto, unfolding(crate::specs::Frame::has_places, crate::specs::Frame::frame_at))]
 pub fn has_places(file: &[u8]) -> bool
     requires { 0x1000 ≤ length file.now }
-    ensures { result ≡ has_places_of (frame_at file.now) }
+    ensures value { result ≡ has_places_of (frame_at file.now) }
+    ensures list { IsTrue result →
+        field_of file.now 14 ≤ field_of file.now 8 + field_of file.now 9 }
 {
     let code_end = up(field(file, CODE_LEN) as usize);
     let table_end = up(field(file, TABLE_LEN) as usize);
@@ -97,7 +112,10 @@ pub fn has_places(file: &[u8]) -> bool
 #[tactic(auto, unfolding(crate::specs::Frame::has_block, crate::specs::Frame::frame_at))]
 pub fn has_block(file: &[u8]) -> bool
     requires { 0x1000 ≤ length file.now }
-    ensures { result ≡ has_block_of (frame_at file.now) }
+    ensures value { result ≡ has_block_of (frame_at file.now) }
+    ensures room { IsTrue result →
+        place_of_code (field_of file.now 3)
+        + up_of (field_of file.now 7) + field_of file.now 9 ≤ length file.now }
 {
     if file.len() != table_place(file) + up(field(file, TABLE_LEN) as usize) {
         return false;
@@ -108,9 +126,9 @@ pub fn has_block(file: &[u8]) -> bool
     field(file, ADDED_LO) as usize + field(file, ADDED_LEN) as usize <= BLOCK_END
 }
 
-/// Whether a run that may begin at `from` keeps the rules, for a table and its list at these addresses.
-fn is_run(table: u32, list: u32, from: u64, run: &RunPlace) -> bool
-    ensures value { result ≡ is_run_of table list from run.now }
+/// Whether a run begins at `from` or above it, has a length and ends low enough.
+fn is_run(from: u64, run: &RunPlace) -> bool
+    ensures value { result ≡ is_run_of from run.now }
     ensures end { IsTrue result → run.now.lo + run.now.len ≤ 0xFFFFF000 }
 {
     if u64::from(run.lo) < from {
@@ -119,27 +137,22 @@ fn is_run(table: u32, list: u32, from: u64, run: &RunPlace) -> bool
     if run.len == 0 {
         return false;
     }
-    if u64::from(run.lo) + u64::from(run.len) > RUN_END {
-        return false;
-    }
-    if run.dir < table {
-        return false;
-    }
-    u64::from(run.dir) + 4 * u64::from(run.len) <= u64::from(list)
+    u64::from(run.lo) + u64::from(run.len) <= RUN_END
 }
 
 /// Whether the runs ascend with a gap between any two, and their parts of the table lie in it before the list.
-pub fn has_runs(file: &[u8]) -> bool
+pub fn has_runs(file: &[u8], table: &Table) -> bool
     requires room { 0x1000 ≤ length file.now }
     requires runs { field_of file.now 15 ≤ 64 }
-    ensures { result ≡ has_runs_of (frame_at file.now) 0 (frame_at file.now).runs }
+    ensures { result ≡ has_runs_of table.now 0 (frame_at file.now).runs }
 {
-    let table = field(file, TABLE_LO);
-    let list = field(file, LIST);
     let mut from = 0;
     for index in 0..field(file, RUN_COUNT) as usize {
         let run = run_place(file, index);
-        if !is_run(table, list, from, &run) {
+        if !is_run(from, &run) {
+            return false;
+        }
+        if !table.has_part(&run) {
             return false;
         }
         from = u64::from(run.lo) + u64::from(run.len) + 1;
@@ -151,7 +164,7 @@ pub fn has_runs(file: &[u8]) -> bool
 pub fn has_size(file: &[u8]) -> bool
     requires room { 0x1000 ≤ length file.now }
     requires runs { field_of file.now 15 ≤ 64 }
-    ensures { result ≡ has_size_of (frame_at file.now) }
+    ensures { result ≡ has_size_of (frame_at file.now).runs }
 {
     let mut size = 0;
     for index in 0..field(file, RUN_COUNT) as usize {

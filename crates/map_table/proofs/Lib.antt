@@ -1,0 +1,2 @@
+-- why the code gives the table's bytes
+pub mod Pages
