@@ -6,7 +6,7 @@ use Rattle.mv_base.specs.Memory.{exec_bytes}
 use Rattle.x86_insn.specs.Spelling.{decoded}
 use Rattle.x86_insn.specs.Step.{Fetched, Absent, Found, Unknown, fetched, fetch_in}
 use Rattle.elf32_read.specs.declared.run.Run.{Run}
-use Rattle.elf32_read.specs.Runs.{code_of, AreApart}
+use Rattle.elf32_read.specs.Runs.{code_of, AreSpread}
 use Rattle.superset.specs.declared.site.Site.{Site}
 use Rattle.superset.specs.Sites.{site_found, site_at, addresses, sites_in, Ascend, AreSites}
 use Rattle.superset.specs.RunAddresses.{Increase, increase_addresses, address_among}
@@ -61,13 +61,13 @@ module _ (code : ℕ → Option ℕ) where
   ascends [] from h = tt
   ascends (x ∷ xs) from h = ascend_step from x (site_at code x) (filter_map (site_at code) xs) h.0 refl (ascends xs (x + 1) h.1)
 
-pub are_sites : (rs : List Run) → AreApart 0 rs → AreSites (code_of rs) (sites_in (code_of rs) rs)
+pub are_sites : (rs : List Run) → AreSpread 0 rs → AreSites (code_of rs) (sites_in (code_of rs) rs)
 unfolding sites_in
-are_sites rs apart = record {
+are_sites rs spread = record {
   all = λ a s e.
       let byte = starts (code_of rs) a s e in
       let among = address_among rs a byte.0 byte.1 in
       has_all (code_of rs) (addresses rs) among.place a s among.below among.at e;
   only = has_only (code_of rs) (addresses rs);
-  ascend = ascends (code_of rs) (addresses rs) 0 (increase_addresses 0 rs apart);
+  ascend = ascends (code_of rs) (addresses rs) 0 (increase_addresses 0 rs spread);
 }

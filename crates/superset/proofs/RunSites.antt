@@ -9,7 +9,7 @@ use Rattle.x86_insn.specs.declared.insn.Insn.{Insn}
 use Rattle.x86_insn.specs.Spelling.{decoded}
 use Rattle.x86_insn.specs.Step.{fetch_in, fetched}
 use Rattle.elf32_read.specs.declared.run.Run.{Run}
-use Rattle.elf32_read.specs.Runs.{code_of, AreApart}
+use Rattle.elf32_read.specs.Runs.{code_of, AreSpread}
 use Rattle.superset.specs.declared.site.Site.{Site}
 use Rattle.superset.specs.Sites.{site_at, site_found, run_addresses, addresses, sites_in}
 use Rattle.superset.specs.RunBytes.{code_first, code_later, exec_run, exec_same, range_more, run_byte}
@@ -42,23 +42,23 @@ pub run_sites_are : (r : Run) → run_sites r ≡ filter_map (site_at (code_of (
 unfolding sites_in addresses
 run_sites_are r = ap (filter_map (site_at (code_of (r ∷ [])))) (append-nil (run_addresses r))
 
-split : (code : ℕ → Option ℕ) (from : ℕ) (rs : List Run) → AreApart from rs → ((b : ℕ) → from ≤ b → code b ≡ code_of rs b) → filter_map (site_at code) (flat_map run_addresses rs) ≡ flat_map run_sites rs
-split code from [] apart same = refl
-split code from (r ∷ rs) apart same =
+split : (code : ℕ → Option ℕ) (from : ℕ) (rs : List Run) → AreSpread from rs → ((b : ℕ) → from ≤ b → code b ≡ code_of rs b) → filter_map (site_at code) (flat_map run_addresses rs) ≡ flat_map run_sites rs
+split code from [] spread same = refl
+split code from (r ∷ rs) spread same =
     let len = length r.bytes in
     let end : code_of (r ∷ []) (r.lo + len) ≡ None = run_byte r len ∙ slice_get_past r.bytes len (omega arith) in
     let first = filter_same (site_at code) (site_at (code_of (r ∷ []))) len r.lo (λ k l.
     site_same code (code_of (r ∷ [])) (r.lo + k) (r.lo + len) (omega arith) end (λ b low high.
-    same b (omega (arith, apart.0)) ∙ code_first from r rs apart b high)) in
-    let rest = split code (r.lo + len + 1) rs apart.3 (λ b low. same b (omega (arith, apart.0)) ∙ code_later r rs b (omega arith)) in
+    same b (omega (arith, spread.0)) ∙ code_first from r rs spread b high)) in
+    let rest = split code (r.lo + len + 1) rs spread.2 (λ b low. same b (omega (arith, spread.0)) ∙ code_later r rs b (omega arith)) in
     filter_map-append (site_at code) (run_addresses r) (flat_map run_addresses rs)
     ∙ ap (λ (t : List Site). t ++ filter_map (site_at code) (flat_map run_addresses rs)) (first ∙ sym (run_sites_are r))
     ∙ ap (λ (t : List Site). run_sites r ++ t) rest
 
 -- the sites of runs are those of each run, one after the other
-pub sites_split : (rs : List Run) → AreApart 0 rs → sites_in (code_of rs) rs ≡ flat_map run_sites rs
+pub sites_split : (rs : List Run) → AreSpread 0 rs → sites_in (code_of rs) rs ≡ flat_map run_sites rs
 unfolding sites_in addresses
-sites_split rs apart = split (code_of rs) 0 rs apart (λ b l. refl)
+sites_split rs spread = split (code_of rs) 0 rs spread (λ b l. refl)
 
 -- at most 15 bytes of a tail of a slice
 pub front_of_tail : (ys xs : List ℕ) (k n : ℕ) → ys ≡ xs → n ≡ min 15 (length (take (length ys - k) (drop k ys))) → take n (take (length ys - k) (drop k ys)) ≡ take 15 (drop k xs)

@@ -7,7 +7,7 @@ use Rattle.std.proofs.lemmas.List.{length-append, get_or_append_left, get_or-app
 use Rattle.std.proofs.lemmas.List.FromFn.{length-range_with_len, get_or-range_with_len}
 use Rattle.std.proofs.lemmas.Option.{none-some}
 use Rattle.elf32_read.specs.declared.run.Run.{Run}
-use Rattle.elf32_read.specs.Runs.{code_of, AreApart}
+use Rattle.elf32_read.specs.Runs.{code_of, AreSpread}
 use Rattle.superset.specs.Sites.{run_addresses, addresses}
 use Rattle.superset.specs.RunBytes.{outside_below, outside_above}
 
@@ -25,11 +25,11 @@ increase_range zero lo xs h = increase_weaker lo (lo + 0) xs (omega arith) h
 increase_range (suc n) lo xs h =
     (omega arith, increase_range n (lo + 1) xs (subst (λ (x : ℕ). Increase x xs) (omega arith) h))
 
-pub increase_addresses : (from : ℕ) (rs : List Run) → AreApart from rs → Increase from (addresses rs)
+pub increase_addresses : (from : ℕ) (rs : List Run) → AreSpread from rs → Increase from (addresses rs)
 unfolding addresses
 increase_addresses from [] h = tt
 increase_addresses from (r ∷ rs) h =
-    let rest = increase_addresses (r.lo + length r.bytes + 1) rs h.3 in
+    let rest = increase_addresses (r.lo + length r.bytes + 1) rs h.2 in
     increase_weaker from r.lo (addresses (r ∷ rs)) h.0
     (increase_range (length r.bytes) r.lo (addresses rs) (increase_weaker (r.lo + length r.bytes) (r.lo + length r.bytes + 1) (addresses rs) (omega arith) rest))
 

@@ -8,7 +8,7 @@ use Rattle.std.proofs.lemmas.List.{drop_more, drop_all}
 use Rattle.std.proofs.lemmas.Option.{slice_get-get_or, slice_get_past}
 use Rattle.mv_base.specs.Memory.{exec_bytes, within}
 use Rattle.elf32_read.specs.declared.run.Run.{Run}
-use Rattle.elf32_read.specs.Runs.{code_of, AreApart}
+use Rattle.elf32_read.specs.Runs.{code_of, AreSpread}
 
 -- the executable bytes from an address on, one step at a time
 pub exec_none : (code : ℕ → Option ℕ) (a n : ℕ) → code a ≡ None → exec_bytes code a n ≡ []
@@ -87,13 +87,13 @@ exec_same c d (suc n) a hi l none same =
           ]
     ]
 
-pub code_below : (from : ℕ) (rs : List Run) → AreApart from rs → (b : ℕ) → b < from → code_of rs b ≡ None
-code_below from [] apart b l = refl
-code_below from (r ∷ rs) apart b l =
-    rw (outside_below r.lo (length r.bytes) b (omega (arith, apart.0))) (code_below (r.lo + length r.bytes + 1) rs apart.3 b (omega (arith, apart.0)))
+pub code_below : (from : ℕ) (rs : List Run) → AreSpread from rs → (b : ℕ) → b < from → code_of rs b ≡ None
+code_below from [] spread b l = refl
+code_below from (r ∷ rs) spread b l =
+    rw (outside_below r.lo (length r.bytes) b (omega (arith, spread.0))) (code_below (r.lo + length r.bytes + 1) rs spread.2 b (omega (arith, spread.0)))
 
-pub code_first : (from : ℕ) (r : Run) (rs : List Run) → AreApart from (r ∷ rs) → (b : ℕ) → b ≤ r.lo + length r.bytes → code_of (r ∷ rs) b ≡ code_of (r ∷ []) b
-code_first from r rs apart b l = rw (code_below (r.lo + length r.bytes + 1) rs apart.3 b (omega arith)) refl
+pub code_first : (from : ℕ) (r : Run) (rs : List Run) → AreSpread from (r ∷ rs) → (b : ℕ) → b ≤ r.lo + length r.bytes → code_of (r ∷ rs) b ≡ code_of (r ∷ []) b
+code_first from r rs spread b l = rw (code_below (r.lo + length r.bytes + 1) rs spread.2 b (omega arith)) refl
 
 pub code_later : (r : Run) (rs : List Run) (b : ℕ) → r.lo + length r.bytes ≤ b → code_of (r ∷ rs) b ≡ code_of rs b
 code_later r rs b l = rw (outside_above r.lo (length r.bytes) b l)
@@ -106,7 +106,7 @@ range_more (suc n) lo =
     rw e (ap (λ (t : List ℕ). lo ∷ t) (range_more n (lo + 1) ∙ ap (λ (a : ℕ). range_with_len (lo + 1) n ++ a ∷ []) f))
 
 -- each of the runs ends below the highest page
-pub apart_ends : (from : ℕ) (rs : List Run) → AreApart from rs → (k : ℕ) (r : Run) → k < length rs → r ≡ get_or rs k r → r.lo + length r.bytes ≤ 0xFFFFF000
-apart_ends from [] apart k r l e = absurd (omega arith)
-apart_ends from (q ∷ rs) apart zero r l e = subst (λ (x : Run). x.lo + length x.bytes ≤ 0xFFFFF000) (sym e) apart.2
-apart_ends from (q ∷ rs) apart (suc k) r l e = apart_ends (q.lo + length q.bytes + 1) rs apart.3 k r (omega arith) e
+pub apart_ends : (from : ℕ) (rs : List Run) → AreSpread from rs → (k : ℕ) (r : Run) → k < length rs → r ≡ get_or rs k r → r.lo + length r.bytes ≤ 0xFFFFF000
+apart_ends from [] spread k r l e = absurd (omega arith)
+apart_ends from (q ∷ rs) spread zero r l e = subst (λ (x : Run). x.lo + length x.bytes ≤ 0xFFFFF000) (sym e) spread.1
+apart_ends from (q ∷ rs) spread (suc k) r l e = apart_ends (q.lo + length q.bytes + 1) rs spread.2 k r (omega arith) e

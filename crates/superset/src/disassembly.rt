@@ -1,7 +1,7 @@
 //! Superset disassembly: decoding at every byte of the runs.
 
 ghost use Rattle.std.specs.Prelude.{◌≡◌, ◌+◌, ◌<◌, ◌≤◌, [], ◌∷◌, ◌++◌, length, IfOk, OnOk};
-ghost use Rattle.elf32_read.specs.Runs.{code_of, AreApart};
+ghost use Rattle.elf32_read.specs.Runs.{code_of, AreSpread};
 ghost use Rattle.superset.specs.Sites.{site_at, sites_in, AreSites};
 
 use crate::site::Site;
@@ -21,7 +21,7 @@ const LONGEST: usize = 15;
 ///
 /// `NoMemory`.
 pub fn sites(alloc: Global, runs: &[Run]) -> Result<Vec<Site>, NoMemory>
-    requires { AreApart 0 runs.now }
+    requires { AreSpread 0 runs.now }
     ensures listed { IfOk result (λ found. found.items ≡ sites_in (code_of runs.now) runs.now) }
     ensures exact { IfOk result (λ found. AreSites (code_of runs.now) found.items) }
 {

@@ -2,18 +2,18 @@
 //! method is after Multiverse (Bauman, Lin and Hamlen, NDSS 2018), which disassembles from every byte.
 //!
 //! `site` has the type of a site, `disassembly` finds all of them. `piece` has the type of the code that stands for a
-//! site elsewhere, `flows` says which flows have such code. What the code is stands in the crates above.
+//! site elsewhere, `targets` where a direct transfer goes. What the code is stands in the crates above.
 #![tactic(auto)]
 
 pub mod disassembly;
-pub mod flows;
 pub mod piece;
 pub mod site;
+pub mod targets;
 
 pub use disassembly::sites;
-pub use flows::has_piece;
 pub use piece::Piece;
 pub use site::Site;
+pub use targets::{successor, target};
 
 #[cfg(test)]
 mod tests;

@@ -1,6 +1,6 @@
 //! Pieces: the code that stands for a site.
 
-ghost use Rattle.std.specs.Prelude.{◌≡◌, ◌≤◌, ◌↔◌, IsTrue, [], length, take};
+ghost use Rattle.std.specs.Prelude.{◌≡◌, ◌+◌, ◌≤◌, ◌↔◌, IsTrue, [], ◌++◌, length, take};
 
 use std::marker::Model;
 
@@ -55,6 +55,18 @@ impl Piece {
         ensures { IsTrue result ↔ (self.now ≡ []) }
     {
         self.len == 0
+    }
+
+    /// These bytes and then more, at most 96 in all.
+    pub fn and(mut self, more: &[u8]) -> Piece
+        requires { length self + length more.now ≤ 96 }
+        ensures { result ≡ self ++ more.now }
+    {
+        let from = self.len;
+        let len = from + more.len();
+        self.bytes[from..len].copy_from_slice(more);
+        self.len = len;
+        self
     }
 }
 

@@ -3,13 +3,14 @@
 ghost use Rattle.std.specs.Prelude.{◌≡◌, IfOk};
 
 use crate::disassembly::sites;
-use crate::flows::has_piece;
 use crate::piece::Piece;
+use crate::site::Site;
+use crate::targets::{successor, target};
 use elf32_read::Run;
 use mv_base::{Bytes, NoMemory};
 use std::alloc::Global;
 use std::test::Fail;
-use x86_insn::Flow;
+use x86_insn::{Cond, Insn};
 
 /// A run of these bytes.
 fn run(alloc: Global, lo: u32, bytes: &[u8]) -> Result<Run, NoMemory>
@@ -42,9 +43,18 @@ fn finds_what_lies_wholly_in_a_run(rt: HostRuntime) -> Result<(), Fail> {
 }
 
 #[test]
-fn knows_which_flows_have_a_piece(rt: HostRuntime) {
-    assert!(rt; has_piece(Flow::Jump));
-    assert!(rt; !has_piece(Flow::CallVia));
+fn names_the_target_of_a_branch(rt: HostRuntime) {
+    // `je` back by 16 from behind its two bytes at the last address but one.
+    let site = Site {
+        at: 0xFFFF_FFFE,
+        len: 2,
+        insn: Insn::Branch {
+            cond: Cond::E,
+            rel: 0xFFFF_FFF0,
+        },
+    };
+    assert_eq!(rt; successor(&site), 0);
+    assert_eq!(rt; target(&site), 0xFFFF_FFF0);
 }
 
 #[test]
@@ -53,4 +63,6 @@ fn keeps_the_bytes_of_a_piece(rt: HostRuntime) {
     assert_eq!(rt; piece.len(), 5);
     assert!(rt; !piece.is_empty());
     assert_eq!(rt; piece.as_slice(), [0xE9, 1, 2, 3, 4].as_slice());
+    let more = piece.and(&[0x90]);
+    assert_eq!(rt; more.as_slice(), [0xE9, 1, 2, 3, 4, 0x90].as_slice());
 }

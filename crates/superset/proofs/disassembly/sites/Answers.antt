@@ -4,7 +4,7 @@ use Rattle.std.proofs.lemmas.List.{take_all}
 use Rattle.superset.proofs.RunSites.{run_sites, sites_split}
 use Rattle.superset.specs.RunBytes.{apart_ends}
 use Rattle.elf32_read.specs.declared.run.Run.{Run}
-use Rattle.elf32_read.specs.Runs.{code_of, AreApart}
+use Rattle.elf32_read.specs.Runs.{code_of, AreSpread}
 use Rattle.superset.specs.declared.site.Site.{Site}
 use Rattle.superset.specs.Sites.{sites_in, AreSites}
 use Rattle.superset.proofs.AllSites.{are_sites}
@@ -13,8 +13,8 @@ use Rattle.superset.proofs.disassembly.sites.Goals as goal
 pub add_sites-requires : goal.add_sites-requires
 add_sites-requires c = apart_ends 0 c.args.runs.now c.requires c.loop-run.run-index c.run-item.result (omega arith) c.run-item.is
 
-are : (runs : List Run) (k : ℕ) (found : List Site) → AreApart 0 runs → length runs ≤ k → found ≡ flat_map run_sites (take k runs) → found ≡ sites_in (code_of runs) runs
-are runs k found apart le e = e ∙ ap (flat_map run_sites) (take_all k runs le) ∙ sym (sites_split runs apart)
+are : (runs : List Run) (k : ℕ) (found : List Site) → AreSpread 0 runs → length runs ≤ k → found ≡ flat_map run_sites (take k runs) → found ≡ sites_in (code_of runs) runs
+are runs k found spread le e = e ∙ ap (flat_map run_sites) (take_all k runs le) ∙ sym (sites_split runs spread)
 
 pub returns-clause-listed : goal.returns-clause-listed
 returns-clause-listed c = are c.args.runs.now c.loop-run.run-index c.loop-run.found.items c.requires (omega arith) c.loop-run.invariant

@@ -1,0 +1,2 @@
+-- what a run of each piece comes to
+pub mod Branches

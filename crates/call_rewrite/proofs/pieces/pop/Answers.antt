@@ -1,0 +1,7 @@
+use Rattle.std.proofs.Common.{refl}
+use Rattle.mv_base.specs.Bytes.{word}
+use Rattle.call_rewrite.proofs.pieces.pop.Goals as goal
+
+pub returns : goal.returns
+unfolding word
+returns c = rw c.to_le_bytes-at.ensures refl
