@@ -1,0 +1,127 @@
+//! The piece of a site where a frame maps the site, and what leads on behind it.
+
+ghost use Rattle.std.specs.Prelude.{◌≡◌, ℕ, ◌∷◌, [], ◌+◌, ◌<◌, ◌≤◌, ◌^◌, true, List, Option, Some, length};
+ghost use Rattle.mv_base.specs.Memory.{exec_bytes};
+ghost use Rattle.elf32_read.specs.Runs.{code_of};
+ghost use Rattle.superset.specs.Targets.{target as target_of};
+ghost use Rattle.simulation_laws.specs.Code.{site_at};
+ghost use Rattle.simulation_laws.specs.Front.{begins};
+ghost use Rattle.simulation_laws.specs.Pieces.{piece as piece_of};
+ghost use Rattle.simulation_laws.specs.Relocated.{IsOutput, anchors_of};
+ghost use Rattle.simulation_laws.specs.Standing.{has_bytes, has_piece, has_way, HasRun};
+ghost use Rattle.simulation_laws.specs.Stepping.{SiteLaw};
+
+use crate::anchors::Anchors;
+use branch_lengthen::{branch_piece, copy_piece, count_piece, join_piece, jump_piece};
+use call_rewrite::{call_piece, call_via_piece, jump_via_piece, return_piece};
+use elf32_read::Run;
+use elf32_write::Frame;
+use superset::{Piece, Site, successor, target};
+use x86_insn::Flow;
+
+/// Whether the frame's code has, where the frame maps a site of the run, the site's piece, and behind it, where the
+/// instruction may go on, the successor's entry or a join to it. Where it does, and the file loads as an output over an
+/// input with this run, each clear step of the input at the site has its law: from states that agree the output comes
+/// within the bound to what the step comes to, completed or stopped, and shows nothing else on the way.
+pub fn piece_at(frame: &Frame<'_>, run: &Run, site: &Site) -> bool
+    requires { site_at (code_of (run.now ∷ [])) site.now.at ≡ Some site.now }
+    ensures value { result ≡ has_piece frame.now (code_of (run.now ∷ [])) site.now }
+    ensures law { result ≡ true → (b x : List ℕ) →
+        IsOutput b x frame.now → HasRun b run.now → SiteLaw b x frame.now site.now }
+{
+    piece_stands(frame, run, site)
+}
+
+/// The piece of a site that stands at `here`, by the site's own bytes, which are at most 15, and where its target now is.
+pub fn piece_bytes(own: &[u8], site: &Site, anchors: Anchors, here: u32, to: u32) -> Piece
+    requires { length own.now ≤ 15 }
+    ensures { (move : ℕ → ℕ) (code : ℕ → Option ℕ) → to ≡ move (target_of site.now) →
+        own.now ≡ exec_bytes code site.now.at site.now.len →
+        result ≡ piece_of anchors move code here site.now }
+{
+    let Anchors { stub, private } = anchors;
+    match site.insn.next_kind() {
+        Flow::Plain | Flow::System | Flow::Trap => copy_piece(own),
+        Flow::Jump => jump_piece(site, here, to),
+        Flow::Branch => branch_piece(site, here, to),
+        Flow::Count => count_piece(site, here, to),
+        Flow::Call => call_piece(site, here, to),
+        Flow::JumpVia => jump_via_piece(site, here, stub, private),
+        Flow::CallVia => call_via_piece(site, here, stub, private),
+        Flow::Return => return_piece(site, here, stub, private),
+    }
+}
+
+// The same, and nothing about a run.
+fn piece_stands(frame: &Frame<'_>, run: &Run, site: &Site) -> bool
+    requires { site_at (code_of (run.now ∷ [])) site.now.at ≡ Some site.now }
+    ensures { result ≡ has_piece frame.now (code_of (run.now ∷ [])) site.now }
+{
+    let here = frame.map(site.at);
+    let anchors = Anchors {
+        stub: frame.code().lo(),
+        private: frame.private(),
+    };
+    let piece = piece_bytes(
+        own_bytes(run, site),
+        site,
+        anchors,
+        here,
+        frame.map(target(site)),
+    );
+    if !stands(frame, here, piece.as_slice()) {
+        return false;
+    }
+    leads_on(frame, site, here + piece.len() as u32)
+}
+
+// The bytes of a site's instruction.
+fn own_bytes<'a>(run: &'a Run, site: &Site) -> &'a [u8]
+    requires { site_at (code_of (run.now ∷ [])) site.now.at ≡ Some site.now }
+    ensures bytes { result.now ≡ exec_bytes (code_of (run.now ∷ [])) site.now.at site.now.len }
+    ensures short { length result.now ≤ 15 }
+{
+    let offset = (site.at - run.lo) as usize;
+    &run.bytes.as_slice()[offset..offset + usize::from(site.len)]
+}
+
+// Whether the frame's code has these bytes from an address on.
+fn stands(frame: &Frame<'_>, at: u32, bytes: &[u8]) -> bool
+    ensures value { result ≡ has_bytes frame.now at bytes.now }
+    ensures low { result ≡ true → at + length bytes.now < 2 ^ 32 }
+{
+    let lo = frame.code().lo();
+    let code = frame.code_bytes();
+    if at < lo || u64::from(at) + bytes.len() as u64 > u64::from(u32::MAX) {
+        return false;
+    }
+    let offset = (at - lo) as usize;
+    if code.len() < offset + bytes.len() {
+        return false;
+    }
+    begins_with(&code[offset..], bytes)
+}
+
+// Whether bytes begin with others, which are no more.
+fn begins_with(bytes: &[u8], front: &[u8]) -> bool
+    requires { length front.now ≤ length bytes.now }
+    ensures { result ≡ begins front.now bytes.now }
+{
+    for i in 0..front.len() {
+        if bytes[i] != front[i] {
+            return false;
+        }
+    }
+    true
+}
+
+// Whether an instruction that may go on finds its way behind the piece.
+fn leads_on(frame: &Frame<'_>, site: &Site, behind: u32) -> bool
+    ensures { result ≡ has_way frame.now behind site.now }
+{
+    if !site.insn.next_kind().falls() {
+        return true;
+    }
+    let next = frame.map(successor(site));
+    next == behind || stands(frame, behind, join_piece(behind, next).as_slice())
+}
