@@ -1,5 +1,5 @@
 -- What the plan of a file gives its writer, and that its file is the output.
-use Rattle.std.proofs.Common.{◌≡◌, ℕ, ◌+◌, ◌≤◌, List, length, Option, Some, None, refl, sym, ap, ◌∙◌, subst, arith}
+use Rattle.std.proofs.Common.{◌≡◌, ℕ, ◌≤◌, List, length, Option, Some, None, refl, sym, ap, ◌∙◌, subst, arith}
 use Rattle.std.specs.Prelude.{IfOk, Result, Ok, Err}
 use Rattle.std.specs.Option.{option_map}
 use Rattle.mv_base.specs.Bytes.{AreBytes}
@@ -19,7 +19,6 @@ use Rattle.elf32_read.specs.RunCount.{length-runs_of, header_count-admitted}
 use Rattle.elf32_read.specs.Runs.{runs_of, code_of}
 use Rattle.elf32_read.specs.Whole.{or_else-none, length-headers}
 use Rattle.elf32_write.specs.declared.plan.Plan.{Plan}
-use Rattle.elf32_write.specs.Format.{up}
 use Rattle.elf32_write.specs.File.{added_len, file_of}
 use Rattle.elf32_write.specs.Frame.{Frame}
 use Rattle.elf32_write.specs.Writing.{EndsLow}
@@ -28,14 +27,14 @@ use Rattle.mv_rewrite.specs.declared.layout.LayFault.TheVariants as lay_fault
 use Rattle.mv_rewrite.specs.declared.rewriting.Rewritten.{Rewritten}
 use Rattle.mv_rewrite.specs.declared.rewriting.RewriteFault.{RewriteFault}
 use Rattle.superset.specs.declared.site.Site.{Site}
-use Rattle.mv_rewrite.specs.Sites.{sites, placed_in}
-use Rattle.mv_rewrite.specs.Layout.{base_of, size, code_len, plan_at}
+use Rattle.mv_rewrite.specs.Sites.{sites, sites_in}
+use Rattle.mv_rewrite.specs.Layout.{base_of, size, plan_at}
 use Rattle.mv_rewrite.specs.Laying.{IsLaid, LaysOut}
 use Rattle.mv_rewrite.specs.Rewriting.{laid_fault, IsRewritten}
 use Rattle.mv_rewrite.specs.Output.{output, output_at}
-use Rattle.mv_rewrite.specs.Stopping.{Simulates}
+use Rattle.simulation_laws.specs.Stopping.{Simulates}
 use Rattle.mv_rewrite.specs.OutputFile.{IsWrittenFor}
-use Rattle.mv_rewrite.proofs.Planned.{IsInput, length-code, length-table_of, length-counted, plan_runs, length-run_places, size_is, has_room_at}
+use Rattle.mv_rewrite.proofs.Planned.{IsInput, length-code, length-table_of, length-counted, plan_runs, length-runs_at, size_is, has_room_at}
 use Rattle.mv_rewrite.proofs.LayoutFacts.{sites_of_runs}
 use Rattle.mv_rewrite.proofs.Recorded.{frame_is}
 use Rattle.mv_rewrite.proofs.Outputs.{simulated, image_input}
@@ -60,7 +59,7 @@ ends_low b p laid =
 -- the plan of a file within the limits has few runs
 pub few_runs : (b : List ℕ) (p : Plan) → limit_fault b ≡ None → IsLaid b p → length p.runs ≤ 64
 few_runs b p admitted laid =
-    omega (arith, ap (λ (q : Plan). length q.runs) laid.plan_is, ap (λ (l : List RunPlace). length l) (plan_runs b p.base), length-run_places (p.base + up (code_len b)) (runs_of b), length-runs_of b, header_count-admitted b admitted)
+    omega (arith, ap (λ (q : Plan). length q.runs) laid.plan_is, ap (λ (l : List RunPlace). length l) (plan_runs b p.base), length-runs_at b p.base, length-runs_of b, header_count-admitted b admitted)
 
 pub few_headers : (b : List ℕ) (hs : List Phdr) → limit_fault b ≡ None → hs ≡ headers b → length hs ≤ 61
 few_headers b hs admitted are = omega (arith, ap (λ (l : List Phdr). length l) are, length-headers b, header_count-admitted b admitted)
@@ -103,16 +102,16 @@ unfolding output
 output_of b x whole bytes small e = output_by b x (base_of b) whole bytes small refl e
 
 -- each output that a file is rewritten to simulates it
-pub all_simulate : (b : List ℕ) (r : Result Rewritten RewriteFault) → AreBytes b → length b ≤ 67108864 → IsRewritten b r → IfOk r (λ x. Simulates b x.bytes.items)
+pub all_simulate : (b : List ℕ) (r : Result Rewritten RewriteFault) → AreBytes b → length b ≤ 67108864 → IsRewritten b r → IfOk r (λ x. Simulates b x.bytes)
 all_simulate b (Ok r) bytes small is =
-    let o = output_of b r.bytes.items is.whole bytes small is.bytes in
+    let o = output_of b r.bytes is.whole bytes small is.bytes in
     subst (Simulates b) o.same (simulated b o.base o.input)
 all_simulate b (Err e) bytes small is = tt
 
 -- and is what is written for it
-pub all_written : (b : List ℕ) (r : Result Rewritten RewriteFault) → AreBytes b → length b ≤ 67108864 → IsRewritten b r → IfOk r (λ x. (f : Frame) × IsWrittenFor b x.bytes.items f)
+pub all_written : (b : List ℕ) (r : Result Rewritten RewriteFault) → AreBytes b → length b ≤ 67108864 → IsRewritten b r → IfOk r (λ x. (f : Frame) × IsWrittenFor b x.bytes f)
 all_written b (Ok r) bytes small is =
-    let o = output_of b r.bytes.items is.whole bytes small is.bytes in
+    let o = output_of b r.bytes is.whole bytes small is.bytes in
     (frame_is b o.base, subst (λ (x : List ℕ). IsWrittenFor b x (frame_is b o.base)) o.same (written_for b o.base o.input))
 all_written b (Err e) bytes small is = tt
 
@@ -125,5 +124,5 @@ pub laid_passes : (b : List ℕ) (fault : LayFault) (e : RewriteFault) → refus
 laid_passes b fault e whole is passed = subst (λ (x : RewriteFault). IsRewritten b (Err x)) (sym passed) (no_plan b fault whole is)
 
 -- the placed sites of the runs are those of the file
-pub sites_are : (b : List ℕ) (rs : List Run) (ss : List Site) → load_refusal b ≡ None → rs ≡ runs_of b → ss ≡ placed_in (code_of rs) rs → ss ≡ sites b
-sites_are b rs ss whole runs found = found ∙ (ap (λ (rs : List Run). placed_in (code_of rs) rs) runs ∙ sym (sites_of_runs b whole))
+pub sites_are : (b : List ℕ) (rs : List Run) (ss : List Site) → load_refusal b ≡ None → rs ≡ runs_of b → ss ≡ sites_in (code_of rs) rs → ss ≡ sites b
+sites_are b rs ss whole runs found = found ∙ (ap (λ (rs : List Run). sites_in (code_of rs) rs) runs ∙ sym (sites_of_runs b whole))

@@ -1,26 +1,17 @@
 -- What a header without a fault keeps, and that it keeps it in the output.
 use Rattle.std.proofs.Common.{◌≡◌, ℕ, ◌+◌, ◌*◌, ◌/◌, ◌%◌, ◌^◌, ◌<◌, ◌≤◌, Bool, true, false, not, cond, eqb, ltb, ◌&&◌, ◌||◌, Option, Some, None, refl, sym, ap, ◌∙◌, inl, inr, arith}
 use Rattle.std.proofs.lemmas.Bool.{cases_Bool, ltb-true, ltb-false, le-ltb, lt-ltb, eq-eqb, eqb-true, ne_eqb, not-false, and_parts, and_from, and_left, and_right, true≢false}
-use Rattle.std.proofs.lemmas.Option.{none-some}
-use Rattle.elf32_read.specs.declared.fault.ImageFault.{ImageFault}
 use Rattle.elf32_read.specs.declared.fault.ImageFault.TheVariants.{Interpreter, Dynamic, FileRange, MemorySmaller, AddressRange, NoPermission, WritableCode, NotCongruent, SharedPage}
 use Rattle.elf32_read.specs.declared.image.Phdr.{Phdr}
 use Rattle.elf32_read.specs.Fields.{is_load, maps, has_exec, has_write, has_read}
-use Rattle.elf32_read.specs.Faults.{or_else, segment_fault, header_fault}
+use Rattle.elf32_read.specs.Faults.{segment_fault, header_fault}
 use Rattle.elf32_write.specs.File.{head_len, kept_header}
+pub use Rattle.simulation_laws.specs.laws.Bounded.{passed, neither}
 
 -- ---- chains of tests
 
 pub passes : {A : Type 0} (t : Bool) (f : A) (rest : Option A) → t ≡ false → rest ≡ None → cond t (Some f) rest ≡ None
 passes t f rest fails none = ap (λ u. cond u (Some f) rest) fails ∙ none
-
-pub passed : {A : Type 0} (t : Bool) (f : A) (rest : Option A) → cond t (Some f) rest ≡ None → (t ≡ false) × (rest ≡ None)
-passed true f rest e = absurd (none-some f (sym e))
-passed false f rest e = (refl, e)
-
-pub neither : (o p : Option ImageFault) → or_else o p ≡ None → (o ≡ None) × (p ≡ None)
-neither None p e = (refl, e)
-neither (Some f) p e = absurd (none-some f (sym e))
 
 -- ---- a header without a fault
 

@@ -2,7 +2,7 @@
 -- that of the worked example: `mov eax,1`, `mov ebx,7`, `int 0x80` at 0x08048054.
 use Rattle.std.proofs.Common.{◌≡◌, ℕ, zero, suc, ◌^◌, ◌<◌, ◌≤◌, true, false, List, [], ◌∷◌, length, take, Option, Some, None, is_some, slice_index, refl, sym, ap, ◌∙◌, arith, subst}
 use Rattle.std.specs.List.{AllByRecursion}
-use Rattle.mv_base.specs.Bytes.{half_at, word_at, number}
+use Rattle.mv_base.specs.Bytes.{half_at, word_at}
 use Rattle.mv_base.specs.Effects.{Answer, Ret, IsAnswer}
 use Rattle.mv_base.specs.Memory.{Memory, exec_byte, exec_bytes, address_after, joined}
 use Rattle.x86_insn.specs.declared.flags.Flags.{Flags}
@@ -27,14 +27,13 @@ use Rattle.x86_insn.specs.Laws.{decoded_of}
 use Rattle.elf32_read.specs.Faults.{refusal, load_refusal, limit_fault, head_fault, headers_fault, header_fault, segment_fault}
 use Rattle.elf32_read.specs.Fields.{headers, header_at, segments}
 use Rattle.elf32_read.specs.Load.{load, segment_cell}
-use Rattle.elf32_write.specs.Frame.{Frame}
-use Rattle.superset.specs.Flows.{has_piece}
+use Rattle.step_laws.specs.Beside.{IsClearOutcome}
+use Rattle.elf32_write.specs.Frame.{Frame, is_added}
 use Rattle.x86_insn.specs.TakenUp.{effects_of, effects_by_flow}
-use Rattle.mv_rewrite.specs.Simulation.{Start, IsStart, begin, run_state, IsClearEffect, IsClearOutcome, IsClearPlace, IsClearStep, IsClear}
-use Rattle.mv_rewrite.proofs.DecodedAlike.{from_found}
-use Rattle.mv_rewrite.proofs.OneStep.{one_more}
-use Rattle.mv_rewrite.proofs.Standing.{fetched_step}
-use Rattle.mv_rewrite.proofs.StepTable.{one_round, turn_ends}
+use Rattle.simulation_laws.specs.Simulation.{Start, IsStart, begin, run_state, IsClearEffect, IsClearStep, IsClear}
+use Rattle.step_laws.specs.laws.Fetching.{from_found}
+use Rattle.step_laws.specs.laws.States.{state_next}
+use Rattle.step_laws.specs.laws.Turns.{fetched_step, one_round, turn_ends}
 
 abbrev pub file : List ℕ
 file =
@@ -161,22 +160,21 @@ unfolding state_after word_at
 begins = refl
 
 first_state : run_state file start answers 1 ≡ Some (state_at 0x08048059 (core_of 1 0))
-first_state = one_more 0 (begin file start answers) (state_at 0x08048054 (core_of 0 0)) (state_at 0x08048059 (core_of 1 0)) begins first_step
+first_state = state_next 0 (begin file start answers) (state_at 0x08048054 (core_of 0 0)) (state_at 0x08048059 (core_of 1 0)) begins first_step
 
 second_state : run_state file start answers 2 ≡ Some (state_at 0x0804805E (core_of 1 7))
-second_state = one_more 1 (begin file start answers) (state_at 0x08048059 (core_of 1 0)) (state_at 0x0804805E (core_of 1 7)) first_state second_step
+second_state = state_next 1 (begin file start answers) (state_at 0x08048059 (core_of 1 0)) (state_at 0x0804805E (core_of 1 7)) first_state second_step
 
 -- three steps complete
 pub three_steps : is_some (run_state file start answers 3) ≡ true
-three_steps = ap is_some (one_more 2 (begin file start answers) (state_at 0x0804805E (core_of 1 7)) last second_state third_step)
+three_steps = ap is_some (state_next 2 (begin file start answers) (state_at 0x0804805E (core_of 1 7)) last second_state third_step)
 
 -- ---- they are clear
 
-clear_here : (f : Frame) (o o' : State) (i : Insn) (n : ℕ) → fetch o.memory o.eip ≡ Found i n → step o ≡ Next o' → has_piece (flow_of i) ≡ true → effects_by_flow (flow_of i) o.answers ≡ [] → IsClearStep file f o
-clear_here f o o' i n found steps placed none = record {
+clear_here : (f : Frame) (o o' : State) (i : Insn) (n : ℕ) → fetch o.memory o.eip ≡ Found i n → step o ≡ Next o' → effects_by_flow (flow_of i) o.answers ≡ [] → IsClearStep file f o
+clear_here f o o' i n found steps none = record {
   effects_clear = subst (AllByRecursion (IsClearEffect file f)) (sym (ap (λ r. effects_of r o.answers) found ∙ none)) tt;
-  stop_clear = subst (IsClearOutcome f) (sym steps) tt;
-  place_clear = subst IsClearPlace (sym found) placed;
+  stop_clear = subst (IsClearOutcome (is_added f)) (sym steps) tt;
 }
 
 -- a state, where there is one, begins a clear step
@@ -185,9 +183,9 @@ ClearAt f None = Unit {0}
 ClearAt f (Some o) = IsClearStep file f o
 
 clear_at : (f : Frame) (j : ℕ) → j < 3 → ClearAt f (run_state file start answers j)
-clear_at f zero low = subst (ClearAt f) (sym begins) (clear_here f _ _ _ 5 first_found first_step refl refl)
-clear_at f (suc zero) low = subst (ClearAt f) (sym first_state) (clear_here f _ _ _ 5 second_found second_step refl refl)
-clear_at f (suc (suc zero)) low = subst (ClearAt f) (sym second_state) (clear_here f _ _ _ 2 third_found third_step refl refl)
+clear_at f zero low = subst (ClearAt f) (sym begins) (clear_here f _ _ _ 5 first_found first_step refl)
+clear_at f (suc zero) low = subst (ClearAt f) (sym first_state) (clear_here f _ _ _ 5 second_found second_step refl)
+clear_at f (suc (suc zero)) low = subst (ClearAt f) (sym second_state) (clear_here f _ _ _ 2 third_found third_step refl)
 clear_at f (suc (suc (suc j))) low = absurd (omega (arith, low))
 
 -- and they are clear, for any frame

@@ -1,41 +1,20 @@
 -- why the code gives what the definitions say
 pub mod Instance
-pub mod PlacedSites
-pub mod PairWalk
+pub mod FoundSites
 pub mod Fit
-pub mod RunOrder
 pub mod SiteList
 pub mod SlotSteps
-pub mod TableWords
 pub mod LayoutFacts
 -- what stands where in an output, and how it loads, lowest first
-pub mod EntryWords
 pub mod SlotPlaces
 pub mod PlacedPlan
-pub mod Parts
-pub mod Written
 pub mod Fine
 pub mod NewHeaders
 pub mod NewCells
 pub mod Planned
 pub mod Recorded
 pub mod Relocating
--- why the run of a relocated output follows the run of its input, lowest first
-pub mod DecodedAlike
-pub mod NearJump
-pub mod Cells
-pub mod Bounded
-pub mod Likeness
-pub mod EffectsAlike
-pub mod Copied
-pub mod StepTable
-pub mod Standing
-pub mod Sound
-pub mod AtSite
-pub mod OneStep
-pub mod Stops
-pub mod Paces
-pub mod Simulating
+-- why the whole is so
 pub mod Outputs
 pub mod OutputFacts
 pub mod Assembled

@@ -12,8 +12,8 @@ use Rattle.elf32_read.specs.Load.{segment_cell, load_in, load}
 use Rattle.elf32_write.specs.Format.{up}
 use Rattle.elf32_write.specs.File.{kept_header, with_added}
 use Rattle.elf32_write.specs.Within.{within_parts}
-use Rattle.mv_rewrite.specs.Relocated.{idle_cell, without_exec}
-use Rattle.mv_rewrite.proofs.Parts.{Stands}
+use Rattle.simulation_laws.specs.Relocated.{idle_cell, without_exec}
+use Rattle.elf32_write.specs.Parts.{Stands}
 use Rattle.mv_rewrite.proofs.Fine.{IsFine, is_kept, kept_load, moved_offset}
 use Rattle.mv_rewrite.proofs.NewHeaders.{Block, IsBlock, block_size, code_of_block, table_of_block, private_of_block, block_headers, AreApart, fine_parts}
 

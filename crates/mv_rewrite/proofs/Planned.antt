@@ -1,14 +1,13 @@
 -- The plan of any image: its block, and the file that it gives.
-use Rattle.std.proofs.Common.{lit<, ◌≡◌, ℕ, zero, suc, ◌+◌, ◌*◌, ◌/◌, ◌%◌, ◌^◌, ◌<◌, ◌≤◌, Bool, true, false, not, cond, eqb, leb, ltb, ◌&&◌, List, [], ◌∷◌, ◌++◌, length, drop, map, Option, Some, None, refl, sym, ap, ◌∙◌, subst, inl, inr, arith}
+use Rattle.std.proofs.Common.{lit<, ◌≡◌, ℕ, zero, suc, ◌+◌, ◌*◌, ◌/◌, ◌%◌, ◌^◌, ◌<◌, ◌≤◌, Bool, true, false, not, cond, eqb, leb, ltb, ◌&&◌, List, [], ◌∷◌, ◌++◌, length, map, Option, Some, None, refl, sym, ap, ◌∙◌, subst, inl, inr, arith}
 use Rattle.std.specs.List.{list_any, list_all, filter_map, cons_option, sum_by, range_with_len, AllByRecursion}
 use Rattle.std.specs.Option.{option_map}
-use Rattle.std.proofs.lemmas.List.{length-append, length-map, get_or-drop}
+use Rattle.std.proofs.lemmas.List.{length-append, length-map}
 use Rattle.std.proofs.lemmas.List.FromFn.{length-range_with_len}
 use Rattle.std.proofs.lemmas.List.Sums.{sum_by-cons}
 use Rattle.std.proofs.lemmas.Bool.{true≢false, cases_Bool, leb-true, ltb-false, and_parts, or_cases, or_left, or_right, cond_both}
 use Rattle.std.proofs.lemmas.Option.{none-some, same_Some}
-use Rattle.byteorder.specs.Numbers.{little_from-lt}
-use Rattle.mv_base.specs.Bytes.{AreBytes, word_at, words}
+use Rattle.mv_base.specs.Bytes.{AreBytes, words}
 use Rattle.mv_base.specs.declared.range.RunPlace.{RunPlace}
 use Rattle.elf32_read.specs.declared.image.Phdr.{Phdr}
 use Rattle.elf32_read.specs.declared.image.Segment.{Segment}
@@ -17,16 +16,24 @@ use Rattle.elf32_read.specs.Fields.{header_at, header_offset, header_count, head
 use Rattle.elf32_read.specs.Faults.{or_else, fault_if, head_fault, headers_fault, load_refusal}
 use Rattle.elf32_read.specs.declared.fault.ImageFault.TheVariants.{ShortHeader, NoLoad}
 use Rattle.elf32_read.specs.Runs.{runs_of, code_of}
-use Rattle.elf32_read.specs.Runs as runs
 use Rattle.elf32_write.specs.Format.{up}
 use Rattle.elf32_write.specs.File.{head_len, code_place, table_of, kept_header, added_header, with_added, new_headers, file_of}
-use Rattle.elf32_write.specs.Words.{length-words}
+use Rattle.mv_base.specs.Words.{length-words}
+use Rattle.mv_base.specs.Table.{group_count}
 use Rattle.superset.specs.Sites.{addresses, run_addresses}
+use Rattle.map_table.specs.Pairs.{entry_in}
+use Rattle.map_table.specs.Paged.{table_size, places_from, IsMade}
+use Rattle.map_table.specs.laws.Reading.{length-table_bytes}
+use Rattle.lookup_stub.specs.Stub.{stub, stub_size}
+use Rattle.lookup_stub.specs.laws.StubBytes.{stub_length}
+pub use Rattle.simulation_laws.specs.laws.Bounded.{word_at-lt}
 use Rattle.mv_rewrite.specs.Sites.{code_in, sites}
-use Rattle.mv_rewrite.specs.Layout.{moved, entry_in, is_apart, has_room, lowest, first_fit, base_of, size, code_len, table_len, pairs_at, run_places, table, plan_at}
+use Rattle.mv_rewrite.specs.Pieces.{slots}
+use Rattle.mv_rewrite.specs.Layout.{moved, is_apart, has_room, lowest, first_fit, base_of, size, stub_len, code_len, table_len, table_from, private_from, pairs_at, runs_at, anchors_at, code, plan_at}
+use Rattle.mv_rewrite.proofs.SiteList.{firsts_places}
 use Rattle.mv_rewrite.proofs.SlotPlaces.{length-file_slots, entry_in-le}
-use Rattle.mv_rewrite.proofs.Parts.{IsHeader}
-use Rattle.mv_rewrite.proofs.Written.{IsWritable, IsWritten, written}
+use Rattle.elf32_write.specs.Parts.{IsHeader}
+use Rattle.elf32_write.specs.Written.{IsWritable, IsWritten, written}
 use Rattle.mv_rewrite.proofs.Fine.{passed, neither}
 use Rattle.mv_rewrite.proofs.NewHeaders.{Block, IsBlock, block_size, code_of_block, table_of_block, private_of_block, block_headers, AreApart, fine_output}
 
@@ -47,15 +54,32 @@ lowest_passes test (suc n) from q e =
 
 -- ---- lengths of the plan
 
+pub length-run_places : (dir : ℕ) (rs : List Run) → length (places_from dir rs) ≡ length rs
+unfolding places_from
+length-run_places dir [] = refl
+length-run_places dir (r ∷ rs) = ap suc (length-run_places (dir + 4 * group_count (length r.bytes)) rs)
+
 module _ (b : List ℕ) (base : ℕ) where
+  -- as many runs have places as there are
+  pub length-runs_at : length (runs_at b base) ≡ length (runs_of b)
+  length-runs_at = length-run_places (table_from b base + 4096) (runs_of b)
+
+  pub length-stub : length (stub 2 (runs_at b base) (private_from b base)) ≡ stub_len b
+  length-stub = stub_length 2 (runs_at b base) (private_from b base) ∙ ap (stub_size 2) length-runs_at
+
   pub length-code : length (plan_at b base).code ≡ code_len b
-  unfolding plan_at
-  length-code = length-file_slots (moved (pairs_at b base)) b base
+  unfolding plan_at code
+  length-code =
+      let first = base + stub_size 2 (length (runs_at b base)) in
+      let move = moved (pairs_at b base) in
+      length-append (stub 2 (runs_at b base) (private_from b base)) (slots (anchors_at b base) move (code_in b) first (sites b))
+      ∙ ap (λ n. n + length (slots (anchors_at b base) move (code_in b) first (sites b))) length-stub
+      ∙ ap (λ n. stub_len b + n) (length-file_slots (anchors_at b base) move b first)
 
   pub length-table : length (plan_at b base).table ≡ table_len b
-  unfolding plan_at table
+  unfolding plan_at
   length-table =
-      omega (arith, length-words (map (entry_in (pairs_at b base)) (addresses (runs_of b))), length-map (addresses (runs_of b)) (entry_in (pairs_at b base)))
+      length-table_bytes (runs_of b) (pairs_at b base) (table_from b base) ∙ ap (table_size (runs_of b)) (firsts_places (base + stub_len b) (sites b))
 
   pub length-counted : length (plan_at b base).counted ≡ 0
   unfolding plan_at
@@ -63,20 +87,17 @@ module _ (b : List ℕ) (base : ℕ) where
 
   pub length-table_of : length (table_of (plan_at b base)) ≡ table_len b
   length-table_of =
-      omega (arith, length-table, length-counted, length-append (plan_at b base).table (words (plan_at b base).counted), length-words (plan_at b base).counted)
+      length-append (plan_at b base).table (words (plan_at b base).counted)
+      ∙ (ap (λ n. n + length (words (plan_at b base).counted)) length-table
+      ∙ (ap (λ n. table_len b + n) (length-words (plan_at b base).counted) ∙ omega (arith, length-counted)))
 
   pub size_is : size b ≡ up (code_len b) + up (table_len b) + 4096
   unfolding size
   size_is = refl
 
-  pub plan_runs : (plan_at b base).runs ≡ run_places (base + up (code_len b)) (runs_of b)
+  pub plan_runs : (plan_at b base).runs ≡ runs_at b base
   unfolding plan_at
   plan_runs = refl
-
-pub length-run_places : (dir : ℕ) (rs : List Run) → length (run_places dir rs) ≡ length rs
-unfolding run_places
-length-run_places dir [] = refl
-length-run_places dir (r ∷ rs) = omega (arith, length-run_places (dir + 4 * length r.bytes) rs)
 
 abbrev pub run_len : Run → ℕ
 run_len r = length r.bytes
@@ -99,9 +120,7 @@ pub record IsInput (b : List ℕ) (base : ℕ) : Type 0 where
   pub few_headers : header_count b ≤ 61
   pub base_is : base_of b ≡ Some base
   pub code : (a : ℕ) → code_in b a ≡ code_of (runs_of b) a
-  pub runs_apart : runs.AreApart 0 (runs_of b)
-  pub few_runs : length (runs_of b) ≤ 64
-  pub few_bytes : sum_by run_len (runs_of b) ≤ 4194304
+  pub made : IsMade (record { runs = runs_of b; pairs = pairs_at b base; lo = table_from b base })
 
 -- the block's page and room, and each segment apart from it
 pub record HasRoom (ss : List Segment) (size base : ℕ) : Type 0 where
@@ -126,10 +145,6 @@ has_room_at b base e =
     let found = lowest_passes test 0xAFF00 0x100 p.0 p.1 in
     let room = and_parts (leb (4096 * p.0 + size b) 0xB0000000) (list_all (is_apart p.0 (p.0 + size b / 4096)) (segments b)) found.0 in
     record { page = p.0; at = p.2; from = found.1; low = omega (arith, p.2, leb-true (4096 * p.0 + size b) 0xB0000000 room.0); apart = room.1 }
-
-pub word_at-lt : (b : List ℕ) (p : ℕ) → AreBytes b → word_at b p < 2 ^ 32
-unfolding word_at
-word_at-lt b p bytes = little_from-lt 0 4 (drop p b) (λ k. subst (λ n. n < 256) (sym (get_or-drop p b k 0)) (bytes (p + k)))
 
 header_fits : (b : List ℕ) (p : ℕ) → AreBytes b → IsHeader (header_at b p)
 unfolding header_at
@@ -236,7 +251,9 @@ module _ (b : List ℕ) (base : ℕ) (is : IsInput b base) where
       (ap (λ c. added_by (code_place (length b)) base c (length (table_of (plan_at b base)))) (length-code b base) ∙ ap (λ t. added_by (code_place (length b)) base (code_len b) t) (length-table_of b base))
 
   pub entry_bound : (a : ℕ) → entry_in (pairs_at b base) a < 2 ^ 32
-  entry_bound a = omega (arith, entry_in-le (sites b) base a, room.low, size_is b base)
+  entry_bound a =
+      let first : base + stub_len b + 32 * length (sites b) ≤ base + up (code_len b) = omega arith in
+      omega (arith, entry_in-le (sites b) (base + stub_len b) a, first, room.low, size_is b base)
 
   entry_lt : (plan_at b base).entry < 2 ^ 32
   unfolding plan_at
@@ -269,14 +286,14 @@ module _ (b : List ℕ) (base : ℕ) (is : IsInput b base) where
   unfolding head_fault
   long = ltb-false (length b) 52 (passed (ltb (length b) 52) ShortHeader _ head_none).0
 
-  writable : IsWritable b (plan_at b base)
+  pub writable : IsWritable b (plan_at b base)
   writable = record {
     ident = omega (arith, long);
     entry = entry_lt;
     headers_fit = subst (AllByRecursion IsHeader) (sym headers_are) new_fit;
     some_header = omega (arith, length-new);
     few_headers = omega (arith, length-new, is.few_headers);
-    few_runs = omega (arith, is.few_runs, ap (λ (l : List RunPlace). length l) (plan_runs b base), length-run_places (base + up (code_len b)) (runs_of b));
+    few_runs = omega (arith, is.made.runs.few, ap (λ (l : List RunPlace). length l) (plan_runs b base), length-runs_at b base);
   }
 
   pub wrote : IsWritten b (plan_at b base) (file_of b (plan_at b base))

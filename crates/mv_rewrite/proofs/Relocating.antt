@@ -1,23 +1,26 @@
 -- An output is relocated.
-use Rattle.std.proofs.Common.{◌≡◌, ℕ, ◌+◌, Bool, true, false, ltb, List, [], ◌∷◌, length, Option, Some, None, refl, sym, ap, ◌∙◌, inl, inr, arith}
+use Rattle.std.proofs.Common.{◌≡◌, ℕ, ◌+◌, ◌-◌, ◌<◌, Bool, true, false, cond, ltb, List, [], ◌∷◌, length, Option, Some, None, refl, sym, ap, ◌∙◌, subst, inl, inr, arith}
+use Rattle.std.specs.Prelude.{slice_index}
 use Rattle.std.proofs.lemmas.Bool.{cases_Bool, cases_lt, and_from, and_cases, lt-ltb, ltb-false, true≢false}
-use Rattle.mv_base.specs.Memory.{Cell, within, first_of, cell_is}
+use Rattle.mv_base.specs.Memory.{Cell, within, first_of, cell_is, exec_byte, exec_byte_of}
 use Rattle.elf32_read.specs.declared.image.Phdr.{Phdr}
 use Rattle.elf32_read.specs.Fields.{headers, entry_at, is_load, maps, has_write, has_exec}
 use Rattle.elf32_read.specs.Faults.{headers_fault, free_after}
 use Rattle.elf32_read.specs.Load.{load}
 use Rattle.elf32_write.specs.Format.{up}
-use Rattle.elf32_write.specs.File.{with_added, file_of}
-use Rattle.elf32_write.specs.Frame.{is_added, is_private}
+use Rattle.elf32_write.specs.File.{code_place, table_of, with_added, file_of}
+use Rattle.elf32_write.specs.Parts.{Stands}
+use Rattle.elf32_write.specs.Frame.{frame_code, is_added, is_private}
+use Rattle.elf32_write.specs.ReadBack.{taken}
 use Rattle.elf32_write.specs.Within.{within_parts}
-use Rattle.mv_rewrite.specs.Layout.{code_len, table_len, plan_at}
-use Rattle.mv_rewrite.specs.Relocated.{IsRelocated, without_exec}
-use Rattle.mv_rewrite.proofs.PlacedPlan.{IsPlaced, map_is, others, mapped, pieces}
+use Rattle.mv_rewrite.specs.Layout.{code_len, table_len, table_from, plan_at}
+use Rattle.simulation_laws.specs.Relocated.{IsOutput, IsRelocated, without_exec}
+use Rattle.mv_rewrite.proofs.PlacedPlan.{IsPlaced, map_is, others, mapped, pieces, stub_stands, table_added, table_are_bytes, table_holds, table_low, placed}
 use Rattle.mv_rewrite.proofs.Fine.{IsFine}
-use Rattle.mv_rewrite.proofs.NewHeaders.{Block, IsBlock, block_headers, AreApart, fine_parts}
-use Rattle.mv_rewrite.proofs.NewCells.{not_within, header_cell, cells_of, loads, cell_inside, cell_outside, cell_unloaded, within_not, kept_cells, InBlock, OutOfBlock, output_out, output_in, code_cell, block_fixed, private_cell}
-use Rattle.mv_rewrite.proofs.Planned.{length-code, size_is, IsInput, room, block, headers_none, wrote, is_block, headers_apart, output_headers, admitted}
-use Rattle.mv_rewrite.proofs.Recorded.{frame_is, framed, table_there}
+use Rattle.mv_rewrite.proofs.NewHeaders.{Block, IsBlock, code_of_block, table_of_block, private_of_block, block_headers, AreApart, fine_parts}
+use Rattle.mv_rewrite.proofs.NewCells.{not_within, within_is, inner_cell, three, header_cell, cells_of, loads, cell_inside, cell_outside, cell_unloaded, within_not, kept_cells, InBlock, OutOfBlock, output_out, output_in, code_cell, block_fixed, private_cell}
+use Rattle.mv_rewrite.proofs.Planned.{length-code, length-table, size_is, IsInput, room, block, headers_none, wrote, is_block, headers_apart, output_headers, admitted}
+use Rattle.mv_rewrite.proofs.Recorded.{frame_is, framed, whole_table, table_there}
 
 -- ---- the input's cells
 
@@ -71,6 +74,24 @@ fixed_all b len free i (h ∷ hs) a fine e =
     let q = fine_parts len free i h hs fine in
     fixed_first (header_cell b h a) (cells_of b hs a) (fixed_one b len free h a q.0) (fixed_all b len (free_after free h) (i + 1) hs a q.1) e
 
+-- ---- the block's cells
+
+-- the table: the bytes that stand at its place
+table_cell : (x table : List ℕ) (k : Block) (n : ℕ) → length table ≡ k.table → Stands x (k.place + up k.code) table → n < length table
+    → cells_of x (block_headers k) (k.base + up k.code + n) ≡ Some (record { byte = slice_index table n; write = false; exec = false })
+table_cell x table k n len stands lt =
+    let lo = k.base + up k.code in
+    let a = k.base + up k.code + n in
+    let place = k.place + up k.code in
+    let w : within lo k.table a ≡ true = within_is lo k.table a (omega arith) (omega (arith, lt, len)) in
+    let d : a - lo ≡ n = omega arith in
+    let file : ltb (a - lo) k.table ≡ true = lt-ltb (a - lo) k.table (omega (arith, d, lt, len)) in
+    let byte : slice_index x (place + (a - lo)) ≡ slice_index table n = ap (λ m. slice_index x (place + m)) d ∙ stands.byte n lt in
+    let cell : inner_cell x (table_of_block k) a ≡ record { byte = slice_index table n; write = false; exec = false } =
+    ap (λ u. record { byte = cond u (slice_index x (place + (a - lo))) 0; write = false; exec = false }) file ∙ ap (λ m. record { byte = m; write = false; exec = false }) byte in
+    ap (λ u. three u (header_cell x (table_of_block k) a) (header_cell x (private_of_block k) a)) (cell_outside x (code_of_block k) a (within_not k.base k.code a (inr (omega arith))))
+    ∙ ap (λ u. three None u (header_cell x (private_of_block k) a)) (cell_inside x (table_of_block k) a refl w ∙ ap (λ (c : Cell). Some c) cell)
+
 -- ---- the output
 
 module _ (b : List ℕ) (base : ℕ) (is : IsInput b base) where
@@ -108,10 +129,27 @@ module _ (b : List ℕ) (base : ℕ) (is : IsInput b base) where
       let q = within_parts (base + up (code_len b) + up (table_len b)) 64 a e in
       record { from = omega (arith, q.0); below = omega (arith, q.1) }
 
+  in_added : (a : ℕ) → InBlock (block b base is) a → is_added (frame_is b base) a ≡ true
+  in_added a at = within_is base (up (code_len b) + up (table_len b) + 4096) a (omega (arith, at.from)) (omega (arith, at.below))
+
+  -- the table: the bytes that stand at its place
+  table_stands : Stands x (code_place (length b) + up (code_len b)) (plan_at b base).table
+  table_stands =
+      subst (λ (t : List ℕ). Stands x (code_place (length b) + up (code_len b)) t) (whole_table b base is)
+      (subst (λ n. Stands x (code_place (length b) + up n) (table_of (plan_at b base))) (length-code b base) (wrote b base is).table_stands)
+
+  pub table_words : (k : ℕ) → k < length (plan_at b base).table → load x (table_from b base + k) ≡ Some (record { byte = slice_index (plan_at b base).table k; write = false; exec = false })
+  table_words k lt =
+      let len = length-table b base in
+      added (table_from b base + k) (record { from = omega arith; below = omega (arith, lt, len) })
+      ∙ table_cell x (plan_at b base).table (block b base is) k len table_stands lt
+
   pub is_placed : IsPlaced b base x (frame_is b base)
   is_placed = record {
     table_is = table_there b base is;
     table_lo = refl;
+    form_is = refl;
+    code_lo = refl;
     runs_are = refl;
     counters = refl;
     private = refl;
@@ -121,25 +159,50 @@ module _ (b : List ℕ) (base : ℕ) (is : IsInput b base) where
         let len = length-code b base in
         added (base + k) (record { from = omega arith; below = omega (arith, lt, len) })
         ∙ code_cell x (plan_at b base).code (block b base is) k len (wrote b base is).code_stands lt;
+    words = table_words;
     positive = omega (arith, (room b base is).at, (room b base is).from);
     low = (room b base is).low;
     code = is.code;
+    made = is.made;
+  }
+
+  -- the code may be executed where the frame says
+  code_runs : (k : ℕ) → k < length (frame_code (frame_is b base)) → exec_byte (load x) ((frame_is b base).code.lo + k) ≡ Some (slice_index (frame_code (frame_is b base)) k)
+  code_runs k lt =
+      let code = (plan_at b base).code in
+      let is_code : frame_code (frame_is b base) ≡ code = taken x code (code_place (length b)) (code_len b) (length-code b base) (wrote b base is).code_stands in
+      let below : k < length code = omega (arith, lt, ap length is_code) in
+      ap exec_byte_of (is_placed.cells k below) ∙ ap (λ (l : List ℕ). Some (slice_index l k)) (sym is_code)
+
+  pub output_is : IsOutput b x (frame_is b base)
+  unfolding plan_at
+  output_is = record {
+    admitted = admitted b base is;
+    framed = framed b base is;
+    low = omega (arith, (room b base is).low, size_is b base);
+    bytes = is.bytes;
+    uncounted = refl;
+    outside = outside;
+    free = free;
+    scratch = λ a e. (in_added a (private_in a e), ap write_of (added a (private_in a e) ∙ private_cell x (block b base is) a e));
+    fixed = λ a e w. ap write_of (added a (in_block a e)) ∙ block_fixed x (block b base is) a w;
+    idle = λ a e. ap exec_of (added a (private_in a e) ∙ private_cell x (block b base is) a e);
+    unwritable = λ a e. ap write_of (loads b (headers b) refl a) ∙ fixed_all b (length b) 0 0 (headers b) a (headers_none b base is) (sym (ap exec_of (loads b (headers b) refl a)) ∙ e);
+    stub = stub_stands b base x (frame_is b base) is_placed;
+    table_added = table_added b base x (frame_is b base) is_placed;
+    table_bytes = table_are_bytes b base x (frame_is b base) is_placed;
+    table_holds = table_holds b base x (frame_is b base) is_placed;
+    table_low = table_low b base x (frame_is b base) is_placed;
+    placed = placed b base x (frame_is b base) is_placed;
+    mapped = mapped b base x (frame_is b base) is_placed;
+    code = code_runs;
   }
 
   pub relocated : IsRelocated b x (frame_is b base)
   unfolding plan_at
   relocated = record {
-    admitted = admitted b base is;
-    framed = framed b base is;
-    low = omega (arith, (room b base is).low, size_is b base);
-    uncounted = refl;
+    output = output_is;
     entry = (wrote b base is).entry_is ∙ sym (map_is b base x (frame_is b base) is_placed (entry_at b));
-    outside = outside;
-    free = free;
-    fixed = λ a e w. ap write_of (added a (in_block a e)) ∙ block_fixed x (block b base is) a w;
-    idle = λ a e. ap exec_of (added a (private_in a e) ∙ private_cell x (block b base is) a e);
-    unwritable = λ a e. ap write_of (loads b (headers b) refl a) ∙ fixed_all b (length b) 0 0 (headers b) a (headers_none b base is) (sym (ap exec_of (loads b (headers b) refl a)) ∙ e);
     pieces = pieces b base x (frame_is b base) is_placed;
     others = others b base x (frame_is b base) is_placed;
-    mapped = mapped b base x (frame_is b base) is_placed;
   }

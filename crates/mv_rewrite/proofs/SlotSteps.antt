@@ -8,9 +8,11 @@ use Rattle.elf32_read.specs.declared.run.Run.{Run}
 use Rattle.elf32_read.specs.Runs.{code_of, AreApart}
 use Rattle.elf32_write.specs.Format.{filled}
 use Rattle.superset.specs.declared.site.Site.{Site}
+use Rattle.simulation_laws.specs.declared.anchors.Anchors.{Anchors}
 use Rattle.mv_rewrite.specs.Pieces.{slot, slots, with_join, piece, join}
 use Rattle.mv_rewrite.specs.Layout.{places}
-use Rattle.mv_rewrite.specs.Slots.{AreShort}
+use Rattle.mv_rewrite.specs.Slots.{AreShort, IsShort}
+use Rattle.elf32_read.specs.Segments.{AreSpread-apart}
 use Rattle.superset.specs.RunBytes.{exec_none, exec_some, exec_zero, exec_same, exec_run, byte_cases, code_below, code_first, code_later, outside_below, run_byte}
 use Rattle.std.proofs.lemmas.Option.{slice_get_past}
 
@@ -42,7 +44,7 @@ skip_first : (r : Run) (rs : List Run) (at n : ℕ) → AreApart 0 (r ∷ rs) �
 skip_first r rs at n apart o =
     elim o [
       | inl l ↦
-          let none : code_of rs at ≡ None = code_below (r.lo + length r.bytes + 1) rs apart.3 at (omega arith) in
+          let none : code_of rs at ≡ None = code_below (r.lo + length r.bytes + 1) rs (AreSpread-apart (r.lo + length r.bytes + 1) rs apart.3) at (omega arith) in
           let none_here : code_of (r ∷ rs) at ≡ None = rw (outside_below r.lo (length r.bytes) at l) none in
           exec_none (code_of (r ∷ rs)) at n none_here ∙ sym (exec_none (code_of rs) at n none)
       | inr l ↦ exec_agree (code_of (r ∷ rs)) (code_of rs) n at (λ b low. code_later r rs b (omega arith))
@@ -61,7 +63,7 @@ run_has rs k r at n l e apart low high =
     let here : r.lo + (at - r.lo) ≡ at = omega arith in
     let end : code_of (r ∷ []) (r.lo + length r.bytes) ≡ None = run_byte r (length r.bytes) ∙ slice_get_past r.bytes (length r.bytes) (omega arith) in
     sym (ap (λ (t : List Run). exec_bytes (code_of t) at n) (rest_of rs k r l e)
-    ∙ exec_same (code_of (r ∷ drop (k + 1) rs)) (code_of (r ∷ [])) n at (r.lo + length r.bytes) (omega arith) end (λ b a1 a2. code_first 0 r (drop (k + 1) rs) w b a2)
+    ∙ exec_same (code_of (r ∷ drop (k + 1) rs)) (code_of (r ∷ [])) n at (r.lo + length r.bytes) (omega arith) end (λ b a1 a2. code_first 0 r (drop (k + 1) rs) (AreSpread-apart 0 (r ∷ drop (k + 1) rs) w) b a2)
     ∙ ap (λ (a : ℕ). exec_bytes (code_of (r ∷ [])) a n) (sym here)
     ∙ exec_run r n (at - r.lo))
 
@@ -80,9 +82,9 @@ exec_short code (suc n) a =
     ]
 
 -- a piece, a join and zeros are a slot
-pub slot_is : (move : ℕ → ℕ) (code : ℕ → Option ℕ) (here : ℕ) (s : Site) (p j old new : List ℕ) → p ≡ piece move code here s → j ≡ join move (here + length p) s → new ≡ ((old ++ p) ++ j) ++ drop (length p + length j) (replicate 32 0) → new ≡ old ++ slot move code here s
+pub slot_is : (an : Anchors) (move : ℕ → ℕ) (code : ℕ → Option ℕ) (here : ℕ) (s : Site) (p j old new : List ℕ) → p ≡ piece an move code here s → j ≡ join move (here + length p) s → new ≡ ((old ++ p) ++ j) ++ drop (length p + length j) (replicate 32 0) → new ≡ old ++ slot an move code here s
 unfolding slot
-slot_is move code here s p j old new e f h =
+slot_is an move code here s p j old new e f h =
     let zeros : drop (length p + length j) (replicate 32 0) ≡ replicate (32 - length (p ++ j)) 0 =
     drop-replicate (length p + length j) 32 0 ∙ ap (λ (n : ℕ). replicate (32 - n) 0) (sym (length-append p j)) in
     h ∙ ap (λ (t : List ℕ). ((old ++ p) ++ j) ++ t) zeros
@@ -109,29 +111,30 @@ pub places_step : (ss : List Site) (base k : ℕ) (s : Site) (at : ℕ) (now new
 places_step ss base k s at now new l e d h p =
     p ∙ ap (λ (t : List (ℕ × ℕ)). t ++ (s.at, at) ∷ []) h ∙ ap (λ (n : ℕ). places base (take k ss) ++ (s.at, n) ∷ []) d ∙ sym (places_more ss base k s l e)
 
-pub slots_none : (move : ℕ → ℕ) (code : ℕ → Option ℕ) (at : ℕ) → slots move code at [] ≡ []
+pub slots_none : (an : Anchors) (move : ℕ → ℕ) (code : ℕ → Option ℕ) (at : ℕ) (old : List ℕ) → old ≡ old ++ slots an move code at []
 unfolding slots
-slots_none move code at = refl
+slots_none an move code at old = sym (append-nil old)
 
-pub slots_more : (move : ℕ → ℕ) (code : ℕ → Option ℕ) (ss : List Site) (at k : ℕ) (s : Site) → k < length ss → s ≡ get_or ss k s → slots move code at (take (k + 1) ss) ≡ slots move code at (take k ss) ++ slot move code (at + 32 * k) s
+pub slots_more : (an : Anchors) (move : ℕ → ℕ) (code : ℕ → Option ℕ) (ss : List Site) (at k : ℕ) (s : Site) → k < length ss → s ≡ get_or ss k s → slots an move code at (take (k + 1) ss) ≡ slots an move code at (take k ss) ++ slot an move code (at + 32 * k) s
 unfolding slots
-slots_more move code [] at k s l e = absurd (omega arith)
-slots_more move code (q ∷ ss) at zero s l e =
+slots_more an move code [] at k s l e = absurd (omega arith)
+slots_more an move code (q ∷ ss) at zero s l e =
     let d : at ≡ at + 32 * 0 = omega arith in
-    append-nil (slot move code at q) ∙ ap (slot move code at) (sym e) ∙ ap (λ (n : ℕ). slot move code n s) d
-slots_more move code (q ∷ ss) at (suc k) s l e =
+    append-nil (slot an move code at q) ∙ ap (slot an move code at) (sym e) ∙ ap (λ (n : ℕ). slot an move code n s) d
+slots_more an move code (q ∷ ss) at (suc k) s l e =
     let t : suc k + 1 ≡ suc (k + 1) = omega arith in
     let d : at + 32 + 32 * k ≡ at + 32 * suc k = omega arith in
-    rw t (ap (λ (t : List ℕ). slot move code at q ++ t) (slots_more move code ss (at + 32) k s (omega arith) e ∙ ap (λ (n : ℕ). slots move code (at + 32) (take k ss) ++ slot move code n s) d)
-    ∙ sym (append_assoc (slot move code at q) (slots move code (at + 32) (take k ss)) (slot move code (at + 32 * suc k) s)))
+    rw t (ap (λ (t : List ℕ). slot an move code at q ++ t) (slots_more an move code ss (at + 32) k s (omega arith) e ∙ ap (λ (n : ℕ). slots an move code (at + 32) (take k ss) ++ slot an move code n s) d)
+    ∙ sym (append_assoc (slot an move code at q) (slots an move code (at + 32) (take k ss)) (slot an move code (at + 32 * suc k) s)))
 
-pub slots_step : (move : ℕ → ℕ) (code : ℕ → Option ℕ) (ss : List Site) (base k : ℕ) (s : Site) (here : ℕ) (now new : List ℕ) → k < length ss → s ≡ get_or ss k s → here ≡ base + 32 * k → now ≡ slots move code base (take k ss) → new ≡ now ++ slot move code here s → new ≡ slots move code base (take (k + 1) ss)
-slots_step move code ss base k s here now new l e d h p =
-    p ∙ ap (λ (t : List ℕ). t ++ slot move code here s) h ∙ ap (λ (n : ℕ). slots move code base (take k ss) ++ slot move code n s) d ∙ sym (slots_more move code ss base k s l e)
+pub slots_step : (an : Anchors) (move : ℕ → ℕ) (code : ℕ → Option ℕ) (ss : List Site) (first k : ℕ) (s : Site) (here : ℕ) (old now new : List ℕ) → k < length ss → s ≡ get_or ss k s → here ≡ first + 32 * k → now ≡ old ++ slots an move code first (take k ss) → new ≡ now ++ slot an move code here s → new ≡ old ++ slots an move code first (take (k + 1) ss)
+slots_step an move code ss first k s here old now new l e d h p =
+    p ∙ ap (λ (t : List ℕ). t ++ slot an move code here s) h ∙ append_assoc old (slots an move code first (take k ss)) (slot an move code here s)
+    ∙ ap (λ (t : List ℕ). old ++ t) (ap (λ (n : ℕ). slots an move code first (take k ss) ++ slot an move code n s) d ∙ sym (slots_more an move code ss first k s l e))
 
-pub short_at : (ss : List Site) (k : ℕ) (s : Site) → AreShort ss → k < length ss → s ≡ get_or ss k s → s.len ≤ 15
+pub short_at : (ss : List Site) (k : ℕ) (s : Site) → AreShort ss → k < length ss → s ≡ get_or ss k s → IsShort s
 short_at ss k s short l e =
-    let P : Option Site → Type 0 = λ o. IfSome o (λ (x : Site). x.len ≤ 15) in
+    let P : Option Site → Type 0 = λ o. IfSome o IsShort in
     subst P (slice_get_read ss (length ss) k s refl l e) (short k)
 
 -- the same steps at an element that is read with a default
@@ -141,10 +144,10 @@ read_is ss k d l = get_or_default ss k d (get_or ss k d) l
 pub places_step_at : (ss : List Site) (base k : ℕ) (d : Site) (at : ℕ) (now new : List (ℕ × ℕ)) → k < length ss → at ≡ base + 32 * k → now ≡ places base (take k ss) → new ≡ now ++ ((get_or ss k d).at, at) ∷ [] → new ≡ places base (take (k + 1) ss)
 places_step_at ss base k d at now new l e h p = places_step ss base k (get_or ss k d) at now new l (read_is ss k d l) e h p
 
-pub slots_step_at : (move : ℕ → ℕ) (code : ℕ → Option ℕ) (ss : List Site) (base k : ℕ) (d : Site) (here : ℕ) (now new : List ℕ) → k < length ss → here ≡ base + 32 * k → now ≡ slots move code base (take k ss) → new ≡ now ++ slot move code here (get_or ss k d) → new ≡ slots move code base (take (k + 1) ss)
-slots_step_at move code ss base k d here now new l e h p = slots_step move code ss base k (get_or ss k d) here now new l (read_is ss k d l) e h p
+pub slots_step_at : (an : Anchors) (move : ℕ → ℕ) (code : ℕ → Option ℕ) (ss : List Site) (first k : ℕ) (d : Site) (here : ℕ) (old now new : List ℕ) → k < length ss → here ≡ first + 32 * k → now ≡ old ++ slots an move code first (take k ss) → new ≡ now ++ slot an move code here (get_or ss k d) → new ≡ old ++ slots an move code first (take (k + 1) ss)
+slots_step_at an move code ss first k d here old now new l e h p = slots_step an move code ss first k (get_or ss k d) here old now new l (read_is ss k d l) e h p
 
-pub short_read : (ss : List Site) (k : ℕ) (d : Site) → AreShort ss → k < length ss → (get_or ss k d).len ≤ 15
+pub short_read : (ss : List Site) (k : ℕ) (d : Site) → AreShort ss → k < length ss → IsShort (get_or ss k d)
 short_read ss k d short l = short_at ss k (get_or ss k d) short l (read_is ss k d l)
 
 -- what three appends come to

@@ -3,12 +3,8 @@ pub mod Sites
 pub mod Pieces
 pub mod Laying
 pub mod Layout
-pub mod Lookup
 pub mod Room
 pub mod Slots
 pub mod Output
-pub mod Relocated
-pub mod Simulation
-pub mod Stopping
 pub mod OutputFile
 pub mod Rewriting

@@ -4,11 +4,13 @@ use Rattle.mv_base.specs.Memory.{within}
 use Rattle.elf32_read.specs.Fields.{entry_at}
 use Rattle.elf32_read.specs.Faults.{load_refusal}
 use Rattle.elf32_read.specs.Load.{load}
-use Rattle.elf32_write.specs.Frame.{Frame, frame, frame_input, frame_code, frame_table, frame_map, is_added, is_private}
-use Rattle.mv_rewrite.specs.Sites.{code_in, sites}
-use Rattle.mv_rewrite.specs.Pieces.{slots}
-use Rattle.mv_rewrite.specs.Layout.{moved, pairs_at}
-use Rattle.mv_rewrite.specs.Relocated.{without_exec}
+use Rattle.elf32_read.specs.Runs.{runs_of}
+use Rattle.elf32_write.specs.Frame.{Frame, frame, frame_input, frame_code, frame_table, frame_entry, frame_map, is_added, is_private}
+use Rattle.map_table.specs.Pairs.{entry_in}
+use Rattle.map_table.specs.Paged.{places}
+use Rattle.mv_rewrite.specs.Sites.{site_at, code_in, sites}
+use Rattle.mv_rewrite.specs.Layout.{moved, size, base_of, pairs_at, code}
+use Rattle.simulation_laws.specs.Relocated.{without_exec, anchors_of}
 
 -- the file for an input, with its frame
 pub record IsWrittenFor (b x : List ℕ) (f : Frame) : Type 0 where
@@ -16,10 +18,20 @@ pub record IsWrittenFor (b x : List ℕ) (f : Frame) : Type 0 where
   pub admitted : load_refusal x ≡ None
   pub framed : frame x ≡ Some f
   pub input_is : frame_input f ≡ b
-  -- its code is the slots of the input's sites
-  pub code_is : frame_code f ≡ slots (frame_map f) (code_in b) f.code.lo (sites b)
-  -- it maps each site to the site's slot, and any other address to itself
-  pub entries : (a : ℕ) → frame_map f a ≡ moved (pairs_at b f.code.lo) a
+  -- it adds the block of the input's size at the lowest place that has room, and counts no site
+  pub base : base_of b ≡ Some f.added.lo
+  pub size_is : f.added.len ≡ size b
+  pub uncounted : f.counters ≡ 0
+  -- it has a table of form 2 over the input's runs
+  pub form : f.form ≡ 2
+  pub runs : f.runs ≡ places (runs_of b) f.table.lo
+  -- its code is the stub of these runs, and behind it the slots of the input's sites
+  pub code_is : frame_code f ≡ code (anchors_of f) (frame_map f) (code_in b) f.runs (sites b)
+  -- its table has the slot of each site, and no entry at any other address; so it maps each site to the site's slot, and any
+  -- other address to itself
+  pub entries : (a : ℕ) → frame_entry f a ≡ entry_in (pairs_at b f.code.lo) a
+  pub none : (a : ℕ) → site_at (code_in b) a ≡ None → frame_entry f a ≡ 0
+  pub maps : (a : ℕ) → frame_map f a ≡ moved (pairs_at b f.code.lo) a
   -- it starts where the input's entry is mapped
   pub entry : entry_at x ≡ frame_map f (entry_at b)
   -- outside the added range: the input's memory without execute marks, and the input maps nothing in it

@@ -18,7 +18,7 @@ laid_fault lay_fault.NoMemory = NoMemory
 -- the one output of a file without a fault, the number of its sites, the added range, and no counter
 pub record IsOutput (b : List ℕ) (r : Rewritten) : Type 0 where
   pub whole : refusal b ≡ None
-  pub bytes : output b ≡ Some r.bytes.items
+  pub bytes : output b ≡ Some r.bytes
   pub site_count : r.sites ≡ length (sites b)
   pub added_lo : base_of b ≡ Some r.added.lo
   pub added_len : r.added.len ≡ size b

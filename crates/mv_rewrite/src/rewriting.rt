@@ -8,22 +8,23 @@ ghost use Rattle.mv_rewrite.specs.Laying.{IsLaid};
 ghost use Rattle.mv_rewrite.specs.Layout.{size};
 ghost use Rattle.mv_rewrite.specs.OutputFile.{IsWrittenFor};
 ghost use Rattle.mv_rewrite.specs.Rewriting.{IsRewritten};
-ghost use Rattle.mv_rewrite.specs.Stopping.{Simulates};
+ghost use Rattle.simulation_laws.specs.Stopping.{Simulates};
 
 use crate::layout::{LayFault, lay};
-use crate::placed::placed_sites;
 use elf32_read::{Image, ImageFault, ReadImage, admit, read_image, runs};
 use elf32_write::{Plan, added_len, write_image};
-use mv_base::{NoMemory, Range};
+use mv_base::{Bytes, NoMemory, Range};
 use std::alloc::Global;
+use superset::sites;
+use thiserror::Error;
 
 /// How many bytes a file that is read may have: 64 MiB.
 pub const FILE_LIMIT: usize = 67_108_864;
 
-/// An output file, how many sites of its input have a piece, the addresses that it adds, and how many counters it has.
+/// An output file, how many sites its input has, the addresses that it adds, and how many counters it has.
 #[derive(Drop)]
 pub struct Rewritten {
-    pub bytes: Vec<u8>,
+    pub bytes: Bytes,
     pub sites: u32,
     pub added: Range,
     pub counters: u32,
@@ -31,9 +32,13 @@ pub struct Rewritten {
 
 /// Why a file is not rewritten: its first fault, no room for the added block, which has this many bytes, or want of
 /// memory.
+#[derive(Clone, Copy, Debug, PartialEq, Eq, Drop, Error)]
 pub enum RewriteFault {
+    #[error("bad image: {0}")]
     Image(ImageFault),
+    #[error("no room for {0} bytes")]
     NoRoom(u64),
+    #[error("no memory")]
     NoMemory,
 }
 
@@ -63,8 +68,10 @@ impl From<LayFault> for RewriteFault {
 }
 
 /// The output of a static executable: its code relocated, a table from old to new addresses, and the input
-/// whole, no longer executable. It follows the input's runs, shows nothing else on the way, and stops where
-/// they stop.
+/// whole, no longer executable. While the steps of a run of the input are clear (its system calls touch no added address
+/// and no code, and no trap comes at an added address), the output passes through a state that agrees after each of
+/// them, shows nothing else on the way, and stops where the input stops; where the input stops at bytes outside the known
+/// instructions, the output stops by a fetch fault at the same address.
 ///
 /// # Errors
 ///
@@ -73,8 +80,8 @@ impl From<LayFault> for RewriteFault {
 pub fn rewrite(alloc: Global, bytes: &[u8]) -> Result<Rewritten, RewriteFault>
     requires { length bytes.now ≤ FILE_LIMIT }
     ensures rewritten { IsRewritten bytes.now result }
-    ensures simulates { IfOk result (λ r. Simulates bytes.now r.bytes.items) }
-    ensures written { IfOk result (λ r. (f : Frame) × IsWrittenFor bytes.now r.bytes.items f) }
+    ensures simulates { IfOk result (λ r. Simulates bytes.now r.bytes) }
+    ensures written { IfOk result (λ r. (f : Frame) × IsWrittenFor bytes.now r.bytes f) }
 {
     match read_image(alloc, bytes) {
         Ok(image) => rewrite_image(alloc, &image, bytes),
@@ -103,11 +110,11 @@ fn rewrite_admitted(alloc: Global, image: &Image, bytes: &[u8]) -> Result<Rewrit
     ensures { IsRewritten bytes.now result }
 {
     let runs = runs(alloc, image, bytes)?;
-    let sites = placed_sites(alloc, &runs)?;
+    let sites = sites(alloc, &runs)?;
     let plan = lay(alloc, image, bytes, &runs, &sites)?;
     let file = write_image(alloc, image, bytes, &plan)?;
     Ok(Rewritten {
-        bytes: file,
+        bytes: Bytes::new(file),
         sites: sites.len() as u32,
         added: added(bytes, &plan),
         counters: 0,

@@ -1,4 +1,4 @@
-//! Files that are rewritten: how many sites they have, which are placed, and where the added block lies, or that no
+//! Files that are rewritten: how many sites they have, what stands for some, and where the added block lies, or that no
 //! place has room.
 
 ghost use Rattle.std.specs.Prelude.{◌≤◌, length};
@@ -19,6 +19,9 @@ const FILE: [u8; 128] = [
     0, 0, 0, 0x10, 0, 0, 0, 0, 0, 0x10, 0, 0, 6, 0, 0, 0, //
     0, 0x10, 0, 0, 0xB8, 1, 0, 0, 0, 0xBB, 7, 0, 0, 0, 0xCD, 0x80,
 ];
+
+/// How many bytes the stub has for one run.
+const STUB_LEN: usize = 91;
 
 /// The file with other bytes at some places.
 fn edited<const N: usize, const K: usize>(mut file: [u8; N], edits: [(usize, u8); K]) -> [u8; N] {
@@ -54,7 +57,7 @@ fn counts(alloc: Global, file: &[u8]) -> Option<(u32, u32)>
     requires { length file.now ≤ FILE_LIMIT }
 {
     let output = rewritten(alloc, file).ok()?;
-    let frame = read_frame(&output.bytes)?;
+    let frame = read_frame(output.bytes.as_slice())?;
     Some((output.sites, frame.run_count()))
 }
 
@@ -63,20 +66,7 @@ fn mapped(alloc: Global, file: &[u8], address: u32) -> Option<u32>
     requires { length file.now ≤ FILE_LIMIT }
 {
     let output = rewritten(alloc, file).ok()?;
-    Some(read_frame(&output.bytes)?.map(address))
-}
-
-#[test]
-fn places_no_site_without_a_piece(rt: HostRuntime) {
-    // `nop`, `ret`, `hlt`: a return has no piece.
-    let file = edited(
-        FILE,
-        [(68, 3), (72, 3), (116, 0x90), (117, 0xC3), (118, 0xF4)],
-    );
-    assert_eq!(rt; counts(rt.alloc(), &file), Some((2, 1)));
-    assert_eq!(rt; mapped(rt.alloc(), &file, 0x0804_8074), Some(0x0010_0000));
-    assert_eq!(rt; mapped(rt.alloc(), &file, 0x0804_8075), Some(0x0804_8075));
-    assert_eq!(rt; mapped(rt.alloc(), &file, 0x0804_8076), Some(0x0010_0020));
+    Some(read_frame(output.bytes.as_slice())?.map(address))
 }
 
 /// The file with this code in place of its own.
@@ -88,6 +78,51 @@ fn with_code<const K: usize>(code: [u8; K]) -> [u8; 128]
         *place = byte;
     }
     edited(file, [(68, K as u8), (72, K as u8)])
+}
+
+#[test]
+fn gives_each_site_a_slot(rt: HostRuntime) {
+    // `nop`, `ret`, `hlt`; an address that is no site goes to itself.
+    let file = with_code([0x90, 0xC3, 0xF4]);
+    assert_eq!(rt; counts(rt.alloc(), &file), Some((3, 1)));
+    assert_eq!(rt; mapped(rt.alloc(), &file, 0x0804_8074), Some(0x0010_005B));
+    assert_eq!(rt; mapped(rt.alloc(), &file, 0x0804_8075), Some(0x0010_007B));
+    assert_eq!(rt; mapped(rt.alloc(), &file, 0x0804_8076), Some(0x0010_009B));
+    assert_eq!(rt; mapped(rt.alloc(), &file, 0x0804_8077), Some(0x0804_8077));
+}
+
+/// Whether the first slot of a file with one run begins with these bytes.
+fn begins_with(alloc: Global, file: &[u8], bytes: &[u8]) -> bool
+    requires { length file.now ≤ FILE_LIMIT }
+{
+    let Ok(output) = rewritten(alloc, file) else {
+        return false;
+    };
+    let Some(frame) = read_frame(output.bytes.as_slice()) else {
+        return false;
+    };
+    let code = frame.code_bytes();
+    code.len() >= STUB_LEN && code[STUB_LEN..].starts_with(bytes)
+}
+
+#[test]
+fn sends_a_jump_through_the_stub(rt: HostRuntime) {
+    // `jmp esp`: mov [P],eax; mov eax,esp; mov [P+4],eax; mov eax,[P]; jmp stub, with P at 0x00104000.
+    let piece = [
+        0xA3, 0x00, 0x40, 0x10, 0x00, 0x89, 0xE0, 0xA3, 0x04, 0x40, 0x10, 0x00, 0xA1, 0x00, 0x40,
+        0x10, 0x00, 0xE9, 0x8F, 0xFF, 0xFF, 0xFF,
+    ];
+    let file = with_code([0xFF, 0xE4]);
+    assert_eq!(rt; counts(rt.alloc(), &file), Some((1, 1)));
+    assert!(rt; begins_with(rt.alloc(), &file, &piece));
+}
+
+#[test]
+fn pushes_the_old_address_of_a_call(rt: HostRuntime) {
+    // `call` of the address behind it, which is `nop`: push 0x08048079; jmp to the slot of the `nop`.
+    let file = with_code([0xE8, 0, 0, 0, 0, 0x90]);
+    let piece = [0x68, 0x79, 0x80, 0x04, 0x08, 0xE9];
+    assert!(rt; begins_with(rt.alloc(), &file, &piece));
 }
 
 #[test]
@@ -121,34 +156,34 @@ fn joins_segments_that_touch(rt: HostRuntime) {
 fn takes_a_file_without_code(rt: HostRuntime) {
     let file = edited(FILE, [(76, 4)]);
     assert_eq!(rt; counts(rt.alloc(), &file), Some((0, 0)));
-    assert_eq!(rt; added(rt.alloc(), &file), Ok((0x0010_0000, 0x1000)));
+    assert_eq!(rt; added(rt.alloc(), &file), Ok((0x0010_0000, 0x3000)));
 }
 
 #[test]
 fn lays_the_block_where_room_is(rt: HostRuntime) {
-    assert_eq!(rt; added(rt.alloc(), &FILE), Ok((0x0010_0000, 0x3000)));
+    assert_eq!(rt; added(rt.alloc(), &FILE), Ok((0x0010_0000, 0x5000)));
 
     // The code at 0x00102074 leaves two pages in front.
     let low = edited(FILE, [(61, 0x20), (62, 0x10), (63, 0)]);
-    assert_eq!(rt; added(rt.alloc(), &low), Ok((0x0010_3000, 0x3000)));
+    assert_eq!(rt; added(rt.alloc(), &low), Ok((0x0010_3000, 0x5000)));
 }
 
 #[test]
 fn finds_no_room(rt: HostRuntime) {
-    // The code at 0x00100074, and zeros from 0x00103000 up to 0xAFFFD000: three pages are left at the end.
+    // The code at 0x00100074, and zeros from 0x00105000 up to 0xAFFFB000: five pages are left at the end.
     let code = edited(FILE, [(61, 0), (62, 0x10), (63, 0)]);
     let zeros = [
-        (93, 0x30),
+        (93, 0x50),
         (94, 0x10),
         (95, 0),
-        (105, 0xA0),
+        (105, 0x60),
         (106, 0xEF),
         (107, 0xAF),
     ];
     let room = edited(code, zeros);
-    assert_eq!(rt; added(rt.alloc(), &room), Ok((0xAFFF_D000, 0x3000)));
+    assert_eq!(rt; added(rt.alloc(), &room), Ok((0xAFFF_B000, 0x5000)));
 
     // One page of zeros more.
-    let full = edited(room, [(105, 0xB0)]);
-    assert_eq!(rt; added(rt.alloc(), &full), Err(12_288));
+    let full = edited(room, [(105, 0x70)]);
+    assert_eq!(rt; added(rt.alloc(), &full), Err(20_480));
 }

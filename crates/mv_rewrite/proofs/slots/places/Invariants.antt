@@ -4,6 +4,6 @@ use Rattle.mv_rewrite.proofs.slots.places.Given as goal
 
 abbrev pub invariant-loop-site : goal.invariant-loop-site
 invariant-loop-site l = record {
-  pairs_are : l.pairs.items ≡ places l.base (take l.site-index l.sites);
-  at_is : l.at ≡ l.base + 32 * l.site-index;
+  pairs_are : l.pairs.items ≡ places l.first (take l.site-index l.sites);
+  at_is : l.at ≡ l.first + 32 * l.site-index;
 }
