@@ -6,7 +6,7 @@ use Rattle.mv_base.specs.Faults.{Rose}
 use Rattle.mv_rewrite.specs.Layout.{base_of}
 use Rattle.mv_rewrite.specs.Rewriting.{IsOutput}
 use Rattle.elf32_write.specs.Frame.{Frame}
-use Rattle.mv_rewrite.specs.Stopping.{Simulates}
+use Rattle.simulation_laws.specs.Stopping.{Simulates}
 use Rattle.mv_rewrite.specs.OutputFile.{IsWrittenFor}
 use Rattle.mv_rewrite.specs.declared.rewriting.Rewritten.{Rewritten}
 use Rattle.multiverse_cli.specs.declared.failure.Failure.{Failure}
@@ -110,8 +110,8 @@ written-over b b' x e file = let P : List ℕ → Type 0 = λ l. (f : Frame) × 
 
 -- a file that is rewritten to equal bytes
 pub rewrites-to :
-    (b x : List ℕ) (r : Rewritten) → length b ≤ size_limit → x ≡ r.bytes.items → IsOutput b r
-    → Simulates b r.bytes.items → (f : Frame) × IsWrittenFor b r.bytes.items f → Rewrites b x
+    (b x : List ℕ) (r : Rewritten) → length b ≤ size_limit → x ≡ r.bytes → IsOutput b r
+    → Simulates b r.bytes → (f : Frame) × IsWrittenFor b r.bytes f → Rewrites b x
 rewrites-to b x r fits e is simulates file =
     let P : List ℕ → Type 0 = λ l. Simulates b l in
     let Q : List ℕ → Type 0 = λ l. (f : Frame) × IsWrittenFor b l f in

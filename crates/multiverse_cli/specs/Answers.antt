@@ -9,7 +9,7 @@ use Rattle.mv_rewrite.specs.Sites.{sites}
 use Rattle.mv_rewrite.specs.Layout.{base_of, size}
 use Rattle.mv_rewrite.specs.Output.{output}
 use Rattle.elf32_write.specs.Frame.{Frame}
-use Rattle.mv_rewrite.specs.Stopping.{Simulates}
+use Rattle.simulation_laws.specs.Stopping.{Simulates}
 use Rattle.mv_rewrite.specs.OutputFile.{IsWrittenFor}
 use Rattle.multiverse_cli.specs.Outside.{Stored, Printed, IsReadFault, IsWriteFault, IsSinkFault, KeepsAll, KeepsOthers, Held, Holds, SaysAll, SaysPart, Says}
 use Rattle.multiverse_cli.specs.Texts.{rewritten_text, usage_message, read_message, size_message, image_message, room_message, write_message, memory_message}
@@ -45,8 +45,9 @@ pub record IsRewritable (b : List ℕ) : Type 0 where
 
 -- a file that is rewritten, and its one output, which simulates it: while the file completes steps that are clear of
 -- the added addresses and of changes to its code, the output passes in order through a state that agrees after each
--- one, shows nothing in between, and stops where the file stops, for the same cause; and it is what is written for the
--- file: an image with a frame, in which the file, its sites' slots, the table and the private area stand and load so
+-- one, shows nothing in between, and stops where the file stops (by a fetch fault at the same address, where the file
+-- meets bytes that are no instruction); and it is what is written for the file: an image with a frame, in which the
+-- file, its code, the table and the private area stand and load so
 pub record Rewrites (b x : List ℕ) : Type 0 where
   pub rewritable : IsRewritable b
   pub output_is : output b ≡ Some x

@@ -2,6 +2,8 @@
 use Rattle.std.specs.Prelude.{◌≡◌, ◌≢◌, ℕ, ◌++◌, ◌⊎◌, Bool, IsTrue, List, Option, Some}
 use Rattle.mv_base.specs.Appended.{AppendsPrefix}
 use Rattle.mv_base.specs.Faults.{Rose}
+use Rattle.mv_base.specs.declared.store.Store as store
+use Rattle.mv_base.specs.declared.sink.Sink as sink
 
 -- a store at entry and at exit: whether it tells, what names hold, its counts of faults, and the name that failed last
 pub record Stored : Type 0 where
@@ -15,18 +17,17 @@ pub record Stored : Type 0 where
   pub failed : List ℕ
 
 -- the same, from a store's meanings and its two values
-abbrev pub stored :
-    {S : Type 0} → (S → Bool) → (S → List ℕ → Option (List ℕ)) → (S → ℕ) → (S → ℕ) → (S → List ℕ) → S → S → Stored
-stored tells holds reads writes failed old new =
+abbrev pub stored : {S : Type 0} → store.Ghosts S → S → S → Stored
+stored of old new =
     record {
-      tells = tells old;
-      before = holds old;
-      after = holds new;
-      reads_before = reads old;
-      reads_after = reads new;
-      writes_before = writes old;
-      writes_after = writes new;
-      failed = failed new;
+      tells = of.tells old;
+      before = of.holds old;
+      after = of.holds new;
+      reads_before = of.read_faults old;
+      reads_after = of.read_faults new;
+      writes_before = of.write_faults old;
+      writes_after = of.write_faults new;
+      failed = of.failed new;
     }
 
 -- a sink at entry and at exit: whether it tells, what was written, and its count of faults
@@ -38,14 +39,14 @@ pub record Printed : Type 0 where
   pub faults_after : ℕ
 
 -- the same, from a sink's meanings and its two values
-abbrev pub printed : {K : Type 0} → (K → Bool) → (K → List ℕ) → (K → ℕ) → K → K → Printed
-printed tells written faults old new =
+abbrev pub printed : {K : Type 0} → sink.Ghosts K → K → K → Printed
+printed of old new =
     record {
-      tells = tells old;
-      before = written old;
-      after = written new;
-      faults_before = faults old;
-      faults_after = faults new;
+      tells = of.tells old;
+      before = of.written old;
+      after = of.written new;
+      faults_before = of.faults old;
+      faults_after = of.faults new;
     }
 
 -- there is a read fault of a name: the count of read faults rose, and the name failed last

@@ -19,7 +19,7 @@ pub fn attempt<'a, S: Store>(
     words: &'a [String],
     store: &mut S,
 ) -> Result<Vec<u8>, Failure<'a>>
-    ensures { Attempts result (asked_of (texts words.now)) (stored S.tells S.holds S.read_faults S.write_faults S.failed store.old store.new) }
+    ensures { Attempts result (asked_of (texts words.now)) (stored S.Store store.old store.new) }
 {
     match read_command(words) {
         None => Err(Failure::Refused(Refusal::Usage)),
@@ -35,7 +35,7 @@ fn rewrite_file<'a, S: Store>(
     output: &'a str,
     store: &mut S,
 ) -> Result<Vec<u8>, Failure<'a>>
-    ensures { Carries result (ToRewrite input.now output.now) (stored S.tells S.holds S.read_faults S.write_faults S.failed store.old store.new) }
+    ensures { Carries result (ToRewrite input.now output.now) (stored S.Store store.old store.new) }
 {
     let bytes = read_file(alloc, input, store)?;
     let rewritten = rewrite(alloc, bytes.as_slice())?;
@@ -50,7 +50,7 @@ fn read_file<'a, S: Store>(
     name: &'a str,
     store: &mut S,
 ) -> Result<Vec<u8>, Failure<'a>>
-    ensures reads { ReadsFile result name.now (stored S.tells S.holds S.read_faults S.write_faults S.failed store.old store.new) }
+    ensures reads { ReadsFile result name.now (stored S.Store store.old store.new) }
     ensures holds_same { S.holds store.new ≡ S.holds store.old }
     ensures write_faults_same { S.write_faults store.new ≡ S.write_faults store.old }
     ensures tells_same { S.tells store.new ≡ S.tells store.old }
@@ -66,8 +66,8 @@ fn read_file<'a, S: Store>(
 
 /// Makes a file hold the bytes.
 fn write_file<'a, S: Store>(name: &'a str, bytes: &[u8], store: &mut S) -> Result<(), Failure<'a>>
-    ensures writes { WritesFile result name.now bytes.now (stored S.tells S.holds S.read_faults S.write_faults S.failed store.old store.new) }
-    ensures others_same { KeepsOthers (stored S.tells S.holds S.read_faults S.write_faults S.failed store.old store.new) name.now }
+    ensures writes { WritesFile result name.now bytes.now (stored S.Store store.old store.new) }
+    ensures others_same { KeepsOthers (stored S.Store store.old store.new) name.now }
 {
     match store.put(name, bytes) {
         Ok(()) => Ok(()),

@@ -14,7 +14,7 @@ use std::alloc::Global;
 
 /// Prints the text of a command that is done, or the message of one that isn't, and gives the answer.
 pub fn report<K: Sink>(alloc: Global, outcome: Result<Vec<u8>, Failure<'_>>, out: &mut K) -> Status
-    ensures { Reports result outcome.entry (printed K.tells K.written K.faults out.old out.new) }
+    ensures { Reports result outcome.entry (printed K.Sink out.old out.new) }
 {
     match outcome {
         Ok(text) => print_text(text.as_slice(), out),
@@ -25,7 +25,7 @@ pub fn report<K: Sink>(alloc: Global, outcome: Result<Vec<u8>, Failure<'_>>, out
 
 /// Prints the text of a command that is done otherwise.
 fn print_text<K: Sink>(text: &[u8], out: &mut K) -> Status
-    ensures { PrintsText result text.now (printed K.tells K.written K.faults out.old out.new) }
+    ensures { PrintsText result text.now (printed K.Sink out.old out.new) }
 {
     match out.put(text) {
         Ok(()) => Status::Done,
@@ -36,7 +36,7 @@ fn print_text<K: Sink>(text: &[u8], out: &mut K) -> Status
 
 /// Prints a refusal's message. That the sink fails changes no answer, that memory runs out does.
 fn print_refusal<K: Sink>(alloc: Global, refusal: &Refusal<'_>, out: &mut K) -> Status
-    ensures { PrintsRefusal result refusal.now (printed K.tells K.written K.faults out.old out.new) }
+    ensures { PrintsRefusal result refusal.now (printed K.Sink out.old out.new) }
 {
     let Ok(text) = message(alloc, refusal) else {
         return print_no_memory(out);
@@ -50,7 +50,7 @@ fn print_refusal<K: Sink>(alloc: Global, refusal: &Refusal<'_>, out: &mut K) -> 
 /// Prints that memory ran out, as far as the sink takes it.
 fn print_no_memory<K: Sink>(out: &mut K) -> Status
     ensures answer { result ≡ Status.NoMemory }
-    ensures said { SaysPart (printed K.tells K.written K.faults out.old out.new) memory_message }
+    ensures said { SaysPart (printed K.Sink out.old out.new) memory_message }
 {
     let _ = out.put(memory_message_bytes());
     Status::NoMemory

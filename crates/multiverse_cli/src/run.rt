@@ -14,18 +14,30 @@ use std::alloc::Global;
 ///
 /// The answers are looked for in the order Usage, ReadFault, TooLarge, BadImage, NoRoom, WriteFault, SinkFault, Done;
 /// NoMemory may come at any place. The clauses say when each comes, which one has to come, and what it leaves behind.
+///
+/// After Done of a rewrite the output simulates the input: while the input's steps are clear, it passes in order through a
+/// state that agrees after each, shows nothing else in between, and stops where the input stops. Bytes outside the known
+/// instructions stop the input as outside and the output by a fetch fault at the same address.
+///
+/// Where a store tells what it holds, the clauses speak of that. The files of the system tell nothing to a proof: for them
+/// the clauses keep counts, causes and order, and the rest holds since this is one function for every store.
 pub fn run<S: Store, K: Sink>(alloc: Global, words: &[String], store: &mut S, out: &mut K) -> Status
     // When an answer may come: a fault of the outside only where its count rose in this call, any other only where the
     // words or the input's bytes are so.
-    ensures comes { Comes result (asked_of (texts words.now)) (stored S.tells S.holds S.read_faults S.write_faults S.failed store.old store.new) (printed K.tells K.written K.faults out.old out.new) }
+    ensures comes { Comes result (asked_of (texts words.now)) (stored S.Store store.old store.new)
+        (printed K.Sink out.old out.new) }
     // Which answer has to come: the first that is due, and Done where none is; want of memory aside.
-    ensures first_due { FirstDue result (asked_of (texts words.now)) (stored S.tells S.holds S.read_faults S.write_faults S.failed store.old store.new) (printed K.tells K.written K.faults out.old out.new) }
+    ensures first_due { FirstDue result (asked_of (texts words.now))
+        (stored S.Store store.old store.new) (printed K.Sink out.old out.new) }
     // What each answer leaves in the store.
-    ensures leaves { Leaves result (asked_of (texts words.now)) (stored S.tells S.holds S.read_faults S.write_faults S.failed store.old store.new) }
+    ensures leaves { Leaves result (asked_of (texts words.now))
+        (stored S.Store store.old store.new) }
     // What each answer has printed.
-    ensures prints { Prints result (asked_of (texts words.now)) (stored S.tells S.holds S.read_faults S.write_faults S.failed store.old store.new) (printed K.tells K.written K.faults out.old out.new) }
+    ensures prints { Prints result (asked_of (texts words.now)) (stored S.Store store.old store.new)
+        (printed K.Sink out.old out.new) }
     // What Done has delivered, over the bytes that the input held at entry.
-    ensures delivers { Delivers result (asked_of (texts words.now)) (stored S.tells S.holds S.read_faults S.write_faults S.failed store.old store.new) (printed K.tells K.written K.faults out.old out.new) }
+    ensures delivers { Delivers result (asked_of (texts words.now))
+        (stored S.Store store.old store.new) (printed K.Sink out.old out.new) }
 {
     let outcome = attempt(alloc, words, store);
     report(alloc, outcome, out)

@@ -17,9 +17,18 @@ const IMAGE: [u8; 96] = [
 ];
 
 /// What a rewrite of `IMAGE` prints: all offsets but those of 07 and of the last byte are sites.
-const PRINTED: &str = "sites 10\nadded 00100000 00003000\ncounters 0\n";
+const PRINTED: &str = "sites 10\nadded 00100000 00005000\ncounters 0\n";
 
-/// The slots of its output, each without the zeros behind it: a piece and a join.
+/// The stub with which its code begins.
+const STUB: [u8; 91] = [
+    0x89, 0x25, 8, 0x40, 0x10, 0, 0xbc, 0x40, 0x40, 0x10, 0, 0x9c, 0x50, 0x51, 0x52, 0xa1, 4, 0x40,
+    0x10, 0, 0x89, 0xc1, 0x81, 0xe9, 0x54, 0x80, 4, 8, 0x81, 0xf9, 0x0c, 0, 0, 0, 0x73, 0x0a, 0xba,
+    0, 0x20, 0x10, 0, 0xe9, 2, 0, 0, 0, 0xeb, 0x16, 0x51, 0xc1, 0xe9, 0x0a, 0x8b, 0x14, 0x8a, 0x59,
+    0x81, 0xe1, 0xff, 3, 0, 0, 0x8b, 0x0c, 0x8a, 0x85, 0xc9, 0x0f, 0x45, 0xc1, 0xa3, 4, 0x40, 0x10,
+    0, 0x5a, 0x59, 0x58, 0x9d, 0x8b, 0x25, 8, 0x40, 0x10, 0, 0xff, 0x25, 4, 0x40, 0x10, 0,
+];
+
+/// The slots behind it, each without the zeros at its end: a piece and a join.
 const SLOTS: [&[u8]; 10] = [
     // mov eax,1
     &[0xb8, 1, 0, 0, 0, 0xe9, 0x96, 0, 0, 0],
@@ -38,24 +47,25 @@ const SLOTS: [&[u8]; 10] = [
     // add [eax],al
     &[0, 0, 0xe9, 0x39, 0, 0, 0],
     // add ch,cl
-    &[0, 0xcd, 0xe9, 0x58, 0x7f, 0xf4, 7],
+    &[0, 0xcd, 0xe9, 0xfd, 0x7e, 0xf4, 7],
     // int 0x80
-    &[0xcd, 0x80, 0xe9, 0x39, 0x7f, 0xf4, 7],
+    &[0xcd, 0x80, 0xe9, 0xde, 0x7e, 0xf4, 7],
 ];
 
-/// The table of its output: an address for each byte of code.
-const TABLE: [u8; 48] = [
-    0, 0, 0x10, 0, 0x20, 0, 0x10, 0, 0x40, 0, 0x10, 0, 0x60, 0, 0x10, 0, 0x80, 0, 0x10, 0, 0xa0, 0,
-    0x10, 0, 0, 0, 0, 0, 0xc0, 0, 0x10, 0, 0xe0, 0, 0x10, 0, 0, 1, 0x10, 0, 0x20, 1, 0x10, 0, 0, 0,
-    0, 0,
+/// What stands in its table behind the page of zeros: the directory, and the first entries of the one page that it names,
+/// an address for each byte of code. All behind these is 0.
+const TABLE: [u8; 52] = [
+    4, 0x20, 0x10, 0, 0x5b, 0, 0x10, 0, 0x7b, 0, 0x10, 0, 0x9b, 0, 0x10, 0, 0xbb, 0, 0x10, 0, 0xdb,
+    0, 0x10, 0, 0xfb, 0, 0x10, 0, 0, 0, 0, 0, 0x1b, 1, 0x10, 0, 0x3b, 1, 0x10, 0, 0x5b, 1, 0x10, 0,
+    0x7b, 1, 0x10, 0, 0, 0, 0, 0,
 ];
 
 /// The frame record of its output, at 0x900.
 const RECORD: [u8; 76] = [
-    0x4d, 0x56, 0x46, 0x52, 1, 0, 0, 0, 1, 0, 0, 0, 0x60, 0, 0, 0, 0, 0, 0x10, 0, 0, 0x30, 0, 0, 0,
-    0, 0x10, 0, 0x40, 1, 0, 0, 0, 0x10, 0x10, 0, 0x30, 0, 0, 0, 0, 0x20, 0x10, 0, 0x40, 0, 0, 0,
-    0x40, 0x20, 0x10, 0, 0, 0, 0, 0, 0x30, 0x10, 0x10, 0, 1, 0, 0, 0, 0x54, 0x80, 4, 8, 0x0c, 0, 0,
-    0, 0, 0x10, 0x10, 0,
+    0x4d, 0x56, 0x46, 0x52, 1, 0, 0, 0, 2, 0, 0, 0, 0x60, 0, 0, 0, 0, 0, 0x10, 0, 0, 0x50, 0, 0, 0,
+    0, 0x10, 0, 0x9b, 1, 0, 0, 0, 0x10, 0x10, 0, 4, 0x20, 0, 0, 0, 0x40, 0x10, 0, 0x40, 0, 0, 0,
+    0x40, 0x40, 0x10, 0, 0, 0, 0, 0, 4, 0x30, 0x10, 0, 1, 0, 0, 0, 0x54, 0x80, 4, 8, 0x0c, 0, 0, 0,
+    0, 0x20, 0x10, 0,
 ];
 
 /// The words as the program gets them.
@@ -80,19 +90,19 @@ fn is_held(store: &MemStore, name: &str, bytes: &[u8]) -> bool {
     store.file(name).is_some_and(|held| held == bytes)
 }
 
-/// Whether a slot, of 32 bytes, has these bytes and then zeros.
-fn is_slot(slot: &[u8], bytes: &[u8]) -> bool {
-    slot.get(..bytes.len()) == Some(bytes)
-        && slot
+/// Whether a part begins with these bytes and has zeros behind them.
+fn is_filled(part: &[u8], bytes: &[u8]) -> bool {
+    part.get(..bytes.len()) == Some(bytes)
+        && part
             .get(bytes.len()..)
             .is_some_and(|rest| rest.iter().all(|byte| *byte == 0))
 }
 
-/// Whether code is the slots, and then zeros.
+/// Whether code is the slots, of 32 bytes each, and then zeros.
 fn are_slots(code: &[u8]) -> bool {
     for (number, slot) in code.chunks(32).enumerate() {
         let bytes = SLOTS.get(number).map_or(&[][..], |bytes| *bytes);
-        if !is_slot(slot, bytes) {
+        if !is_filled(slot, bytes) {
             return false;
         }
     }
@@ -102,20 +112,26 @@ fn are_slots(code: &[u8]) -> bool {
 /// Whether the name holds the output of `IMAGE`.
 fn is_output(store: &MemStore, name: &str) -> bool {
     store.file(name).is_some_and(|held| {
-        held.len() == 16_384
+        held.len() == 24_576
             && held
                 .get(24..28)
-                .is_some_and(|entry| entry == [0, 0, 0x10, 0].as_slice())
+                .is_some_and(|entry| entry == [0x5b, 0, 0x10, 0].as_slice())
             && held
                 .get(0x900..0x94c)
                 .is_some_and(|part| part == RECORD.as_slice())
             && held
                 .get(0x1000..0x1060)
                 .is_some_and(|part| part == IMAGE.as_slice())
-            && held.get(0x2000..0x3000).is_some_and(are_slots)
             && held
-                .get(0x3000..0x3030)
-                .is_some_and(|part| part == TABLE.as_slice())
+                .get(0x2000..0x205b)
+                .is_some_and(|part| part == STUB.as_slice())
+            && held.get(0x205b..0x3000).is_some_and(are_slots)
+            && held
+                .get(0x3000..0x4000)
+                .is_some_and(|part| is_filled(part, &[]))
+            && held
+                .get(0x4000..)
+                .is_some_and(|part| is_filled(part, &TABLE))
     })
 }
 
@@ -277,11 +293,11 @@ const INTERPRETER: Header = Header {
     ..CODE_AT_TWO
 };
 
-/// Maps a page of zeros that may be written, two pages above the lowest address of an added block.
+/// Maps a page of zeros that may be written, four pages above the lowest address of an added block.
 const ZEROS: Header = Header {
     kind: 1,
     offset: 0,
-    vaddr: 0x0010_2000,
+    vaddr: 0x0010_4000,
     filesz: 0,
     memsz: 0x1000,
     flags: 6,
@@ -435,25 +451,25 @@ fn images_are_rewritten_or_refused(rt: HostRuntime) -> Result<(), Fail> {
             status: Status::NoRoom,
             ..bad(
                 &[ZEROS_EVERYWHERE, CODE_ABOVE],
-                "multiverse: no room: 12288\n",
+                "multiverse: no room: 20480\n",
             )
         },
         done(
             &[ZEROS, CODE_AT_TWO],
-            "sites 10\nadded 00103000 00003000\ncounters 0\n",
-            16_384,
+            "sites 10\nadded 00105000 00005000\ncounters 0\n",
+            24_576,
         ),
         done(
             &[CODE_AT_TWO, CODE_AGAIN],
-            "sites 20\nadded 00100000 00003000\ncounters 0\n",
-            16_384,
+            "sites 20\nadded 00100000 00006000\ncounters 0\n",
+            28_672,
         ),
         Row {
             count: 1,
             ..done(
                 &[DATA_AT_ONE],
-                "sites 0\nadded 00100000 00001000\ncounters 0\n",
-                8_192,
+                "sites 0\nadded 00100000 00003000\ncounters 0\n",
+                16_384,
             )
         },
     ];

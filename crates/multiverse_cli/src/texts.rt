@@ -19,7 +19,9 @@ pub fn memory_message_bytes() -> &'static [u8]
 /// What a rewrite prints when it is done: how many sites the image has, the first of the added addresses and how many
 /// they are, and how many counters there are.
 pub fn rewritten_text(alloc: Global, rewritten: &Rewritten) -> Result<Vec<u8>, NoMemory>
-    ensures { IfOk result (λ text. text.items ≡ rewritten_text_of rewritten.now.sites rewritten.now.added.lo rewritten.now.added.len rewritten.now.counters) }
+    ensures { IfOk result (λ text. text.items
+        ≡ rewritten_text_of rewritten.now.sites rewritten.now.added.lo
+        rewritten.now.added.len rewritten.now.counters) }
 {
     let mut text = Vec::new(alloc);
     put_count("sites", rewritten.sites, &mut text)?;

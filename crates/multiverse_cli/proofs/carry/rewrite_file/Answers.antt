@@ -11,8 +11,8 @@ returns g c =
     let is = output-over c.in_ok-bytes.bytes.items _ _ c.as_slice.ensures.value c.in_ok-rewritten.ensures.rewritten in
     let follows = simulates-over c.in_ok-bytes.bytes.items _ _ c.as_slice.ensures.value c.in_ok-rewritten.ensures.simulates in
     let file = written-over c.in_ok-bytes.bytes.items _ _ c.as_slice.ensures.value c.in_ok-rewritten.ensures.written in
-    let w = stored g.S.Store.tells g.S.Store.holds g.S.Store.read_faults g.S.Store.write_faults g.S.Store.failed c.read_file.new.store c.write_file.new.store in
-    let s = stored g.S.Store.tells g.S.Store.holds g.S.Store.read_faults g.S.Store.write_faults g.S.Store.failed c.args.store.now c.write_file.new.store in
+    let w = stored g.S.Store c.read_file.new.store c.write_file.new.store in
+    let s = stored g.S.Store c.args.store.now c.write_file.new.store in
     let last : IsLastStep w s = record {
       tells = read.tells_same;
       before = read.holds_same;
@@ -24,10 +24,10 @@ returns g c =
     record {
       written = record {
         b = c.in_ok-bytes.bytes.items;
-        x = c.in_ok-rewritten.rewritten.bytes.items;
+        x = c.in_ok-rewritten.rewritten.bytes;
         held = read.reads.0;
         rewrites = rewrites-to _ _ _ read.reads.1 refl is follows file;
-        stored = holds-whole w s _ _ _ last c.as_slice-2.ensures.value c.in_ok-write_file.ensures.writes;
+        stored = holds-whole w s _ _ _ last c.as_slice-2.ensures c.in_ok-write_file.ensures.writes;
         others = others-whole w s _ last c.in_ok-write_file.ensures.others_same;
       };
       text_is = c.in_ok-text.ensures ∙ text-whole _ _ is;
@@ -39,8 +39,8 @@ returns-in_err-write_file g c =
     let is = output-over c.in_ok-bytes.bytes.items _ _ c.as_slice.ensures.value c.in_ok-rewritten.ensures.rewritten in
     let follows = simulates-over c.in_ok-bytes.bytes.items _ _ c.as_slice.ensures.value c.in_ok-rewritten.ensures.simulates in
     let file = written-over c.in_ok-bytes.bytes.items _ _ c.as_slice.ensures.value c.in_ok-rewritten.ensures.written in
-    let w = stored g.S.Store.tells g.S.Store.holds g.S.Store.read_faults g.S.Store.write_faults g.S.Store.failed c.read_file.new.store c.write_file.new.store in
-    let s = stored g.S.Store.tells g.S.Store.holds g.S.Store.read_faults g.S.Store.write_faults g.S.Store.failed c.args.store.now c.write_file.new.store in
+    let w = stored g.S.Store c.read_file.new.store c.write_file.new.store in
+    let s = stored g.S.Store c.args.store.now c.write_file.new.store in
     let last : IsLastStep w s = record {
       tells = read.tells_same;
       before = read.holds_same;
@@ -51,5 +51,5 @@ returns-in_err-write_file g c =
     } in
     passes-on _ _ _ _ c.from_residual-in_err-write_file.ensures.1
     (fails-whole _ (ToRewrite c.args.input.now c.args.output.now) w s _ c.as_slice-2.result.now last read.reads.0
-    (rewrites-to _ _ _ read.reads.1 c.as_slice-2.ensures.value is follows file)
+    (rewrites-to _ _ _ read.reads.1 c.as_slice-2.ensures is follows file)
     c.in_err-write_file.ensures.writes c.in_err-write_file.ensures.others_same)
