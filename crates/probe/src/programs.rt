@@ -18,6 +18,14 @@ use x86_machine::{Answers, Kind, Machine, Outcome};
 /// The most steps of `machine`.
 const MOST_STEPS: u32 = 1_000_000;
 
+/// How a run ended: what its last step gave, how many steps were completed, and how many answers of the log were used.
+#[derive(Clone, Copy)]
+pub struct Ended {
+    pub outcome: Outcome,
+    pub steps: u32,
+    pub answered: usize,
+}
+
 /// The answer to the words after `machine`.
 pub fn answer<W: Write>(alloc: Global, mut rest: Split<'_, char>, out: &mut W) -> io::Result<()> {
     run(alloc, MOST_STEPS, rest.next(), out)
@@ -45,8 +53,8 @@ fn run<W: Write>(alloc: Global, count: u32, word: Option<&str>, out: &mut W) -> 
     };
     match started(alloc, file.as_slice(), &log) {
         Some(mut machine) => {
-            let outcome = stepped(&mut machine, &log, count);
-            write!(out, "{} {:x}", name(outcome), machine.eip)?;
+            let ended = stepped(&mut machine, &log, count);
+            write!(out, "{} {:x}", name(ended.outcome), machine.eip)?;
             write_memory(&machine, out)?;
             writeln!(out)
         }
@@ -65,29 +73,38 @@ fn log(alloc: Global) -> io::Result<Option<Log>> {
     Ok(Log::new(Args::new(Vec::new(alloc)), AnswerList::new(answers)))
 }
 
-// The machine at the program's entry, where the file is a program.
-fn started(alloc: Global, file: &[u8], log: &Log) -> Option<Machine>
+/// The machine at the program's entry, where the file is a program.
+pub fn started(alloc: Global, file: &[u8], log: &Log) -> Option<Machine>
     ensures { IfSome result (λ machine. length log.now.answers ≤ machine.calls.spare) }
 {
     let image = read_image(alloc, file).ok()?;
     Machine::start(alloc, &image, file, log).ok()
 }
 
-// What the last of at most `count` steps gives.
-fn stepped(machine: &mut Machine, log: &Log, count: u32) -> Outcome
+/// A run of at most `count` steps.
+pub fn stepped(machine: &mut Machine, log: &Log, count: u32) -> Ended
     requires { length log.now.answers ≤ machine.old.calls.spare }
 {
     let mut answers = Answers { log, next: 0 };
-    for _ in 0..count {
+    for steps in 0..count {
         let outcome = machine.step(&mut answers);
         if !matches!(outcome, Outcome::Next) {
-            return outcome;
+            return Ended {
+                outcome,
+                steps,
+                answered: answers.next,
+            };
         }
     }
-    Outcome::Next
+    Ended {
+        outcome: Outcome::Next,
+        steps: count,
+        answered: answers.next,
+    }
 }
 
-fn name(outcome: Outcome) -> &'static str {
+/// The word of an outcome.
+pub fn name(outcome: Outcome) -> &'static str {
     match outcome {
         Outcome::Next => "next",
         Outcome::Trap(Kind::ReadFault, _) => "read",
