@@ -1,0 +1,186 @@
+/* Reads the frame of a rewritten file (docs/FORMATS.md, "What is written"). This code is outside every proof. */
+#define _GNU_SOURCE
+#include "frame.h"
+
+#include <elf.h>
+#include <stdlib.h>
+#include <string.h>
+#include <sys/stat.h>
+#include <unistd.h>
+
+enum {
+  PAGE = 4096,
+  HEAD_LENGTH = 0x1000, /* the input stands behind the head */
+  RECORD_OFFSET = 0x900,
+  RECORD_VERSION = 1,
+  PRIVATE_LENGTH = 64,
+  COUNTER_LENGTH = 8,
+  WORD = 4,
+  MOST_RUNS = 64,
+  MOST_HEADERS = 64,
+  GROUP = 1024, /* addresses that one page of the table serves */
+  MOST_INPUT = 67108864,
+  MOST_CODE = 4194304,
+};
+enum { FLAT = 1, PAGED = 2 };
+#define MAGIC 0x5246564du /* 4D 56 46 52 */
+#define BLOCK_END 0xb0000000u
+#define ADDRESS_END 0xfffff000u
+
+struct run {
+  uint32_t lo, length, part; /* `part` is the address of its part of the table */
+};
+
+/* The frame record, word by word. */
+struct record {
+  uint32_t magic, version, form, input_length;
+  uint32_t added_lo, added_length, code_lo, code_length, table_lo, table_length;
+  uint32_t private_lo, private_length, first_counter, counters, counted_list, run_count;
+  struct run runs[MOST_RUNS];
+};
+
+struct frame {
+  struct record record;
+  struct original original;
+  uint8_t *table;
+  uint8_t *is_entry; /* one bit an address of the code */
+};
+
+static uint64_t up(uint64_t n) { return (n + PAGE - 1) / PAGE * PAGE; }
+
+static bool read_at(int file, void *to, size_t length, uint64_t offset) {
+  return pread(file, to, length, (off_t)offset) == (ssize_t)length;
+}
+
+static bool places_hold(const struct record *r, uint64_t file_length) {
+  uint64_t table = r->code_lo + up(r->code_length), private_ = table + up(r->table_length);
+  uint64_t end = private_ + up(PRIVATE_LENGTH + (uint64_t)COUNTER_LENGTH * r->counters);
+  return r->magic == MAGIC && r->version == RECORD_VERSION && (r->form == FLAT || r->form == PAGED) &&
+         r->input_length <= MOST_INPUT && r->run_count <= MOST_RUNS && r->added_lo % PAGE == 0 &&
+         r->code_lo == r->added_lo && r->table_lo == table && r->private_lo == private_ &&
+         r->private_length == PRIVATE_LENGTH && r->first_counter == private_ + PRIVATE_LENGTH &&
+         end <= BLOCK_END && r->added_length == end - r->added_lo && r->counted_list >= table &&
+         r->counted_list + (uint64_t)WORD * r->counters == table + r->table_length &&
+         file_length == HEAD_LENGTH + up(r->input_length) + up(r->code_length) + up(r->table_length);
+}
+
+static bool runs_hold(const struct record *r) {
+  uint64_t free_from = 0, total = 0;
+  for (uint32_t k = 0; k < r->run_count; k++) {
+    const struct run *run = &r->runs[k];
+    uint64_t end = (uint64_t)run->lo + run->length;
+    if (run->length == 0 || run->lo < free_from || end > ADDRESS_END) return false;
+    free_from = end + 1;
+    total += run->length;
+  }
+  return total <= MOST_CODE;
+}
+
+static bool in_table(const struct record *r, uint32_t address, uint64_t length) {
+  return address >= r->table_lo && address + length <= r->counted_list;
+}
+
+static uint32_t table_word(const struct frame *frame, uint32_t address) {
+  uint32_t word;
+  memcpy(&word, frame->table + (address - frame->record.table_lo), WORD);
+  return word;
+}
+
+static bool parts_hold(const struct frame *frame) {
+  const struct record *r = &frame->record;
+  for (uint32_t k = 0; k < r->run_count; k++) {
+    const struct run *run = &r->runs[k];
+    uint32_t groups = (run->length + GROUP - 1) / GROUP;
+    uint32_t words = r->form == FLAT ? run->length : groups;
+    if (!in_table(r, run->part, (uint64_t)WORD * words)) return false;
+    for (uint32_t group = 0; r->form == PAGED && group < groups; group++)
+      if (!in_table(r, table_word(frame, run->part + WORD * group), WORD * GROUP)) return false;
+  }
+  return true;
+}
+
+static uint32_t run_entry(const struct frame *frame, const struct run *run, uint32_t address) {
+  uint32_t k = address - run->lo;
+  if (frame->record.form == FLAT) return table_word(frame, run->part + WORD * k);
+  return table_word(frame, table_word(frame, run->part + WORD * (k / GROUP)) + WORD * (k % GROUP));
+}
+
+static void mark_entries(struct frame *frame) {
+  const struct record *r = &frame->record;
+  for (uint32_t k = 0; k < r->run_count; k++)
+    for (uint32_t n = 0; n < r->runs[k].length; n++) {
+      uint32_t entry = run_entry(frame, &r->runs[k], r->runs[k].lo + n);
+      if (frame_in_code(frame, entry)) frame->is_entry[(entry - r->code_lo) / 8] |= 1 << (entry - r->code_lo) % 8;
+    }
+}
+
+/* The values that the kernel computes of the input, which stands whole behind the head. */
+static bool read_original(int file, uint32_t input_length, struct original *original) {
+  Elf32_Ehdr header;
+  Elf32_Phdr headers[MOST_HEADERS];
+  if (input_length < sizeof header || !read_at(file, &header, sizeof header, HEAD_LENGTH)) return false;
+  uint64_t length = (uint64_t)header.e_phnum * sizeof headers[0];
+  if (header.e_phnum > MOST_HEADERS || header.e_phoff + length > input_length) return false;
+  if (!read_at(file, headers, length, HEAD_LENGTH + (uint64_t)header.e_phoff)) return false;
+  *original = (struct original){0, header.e_phnum, header.e_entry};
+  for (int k = header.e_phnum - 1; k >= 0; k--)
+    if (headers[k].p_type == PT_LOAD && headers[k].p_offset <= header.e_phoff &&
+        header.e_phoff - headers[k].p_offset < headers[k].p_filesz)
+      original->headers = header.e_phoff - headers[k].p_offset + headers[k].p_vaddr;
+  return true;
+}
+
+static bool read_record(int file, struct record *record) {
+  struct stat about;
+  return fstat(file, &about) == 0 && about.st_size >= HEAD_LENGTH &&
+         read_at(file, record, sizeof *record, RECORD_OFFSET) && places_hold(record, (uint64_t)about.st_size) &&
+         runs_hold(record);
+}
+
+static bool read_table(int file, struct frame *frame) {
+  const struct record *r = &frame->record;
+  frame->table = malloc(r->table_length + 1);
+  frame->is_entry = calloc(r->code_length / 8 + 1, 1);
+  return frame->table && frame->is_entry &&
+         read_at(file, frame->table, r->table_length, HEAD_LENGTH + up(r->input_length) + up(r->code_length)) &&
+         parts_hold(frame);
+}
+
+struct frame *frame_read(int file) {
+  struct frame *frame = calloc(1, sizeof *frame);
+  if (!frame) return NULL;
+  if (read_record(file, &frame->record) && read_original(file, frame->record.input_length, &frame->original) &&
+      read_table(file, frame)) {
+    mark_entries(frame);
+    return frame;
+  }
+  free(frame->table);
+  free(frame->is_entry);
+  free(frame);
+  return NULL;
+}
+
+const struct original *frame_original(const struct frame *frame) { return &frame->original; }
+
+uint32_t frame_entry(const struct frame *frame, uint32_t address) {
+  for (uint32_t k = 0; k < frame->record.run_count; k++) {
+    const struct run *run = &frame->record.runs[k];
+    if (address >= run->lo && address - run->lo < run->length) return run_entry(frame, run, address);
+  }
+  return 0;
+}
+
+bool frame_in_code(const struct frame *frame, uint32_t address) {
+  return address >= frame->record.code_lo && address - frame->record.code_lo < frame->record.code_length;
+}
+
+bool frame_is_entry(const struct frame *frame, uint32_t address) {
+  uint32_t place = address - frame->record.code_lo;
+  return frame_in_code(frame, address) && frame->is_entry[place / 8] >> place % 8 & 1;
+}
+
+uint32_t frame_piece(const struct frame *frame, uint32_t address) {
+  for (uint32_t at = address; frame_in_code(frame, at); at--)
+    if (frame_is_entry(frame, at)) return at;
+  return address;
+}
