@@ -1,6 +1,6 @@
 -- Sites: the addresses at which an instruction lies wholly in executable cells. The method is after Multiverse,
 -- which disassembles from every byte.
-use Rattle.std.specs.Prelude.{◌≡◌, ℕ, ◌+◌, ◌≤◌, List, [], ◌∷◌, length, Option, Some, None, Contains}
+use Rattle.std.specs.Prelude.{◌≡◌, ℕ, ◌+◌, ◌<◌, ◌≤◌, List, [], ◌∷◌, length, Option, Some, None, Contains}
 use Rattle.std.specs.List.{AllByRecursion, filter_map, flat_map, range_with_len}
 use Rattle.x86_insn.specs.Step.{Fetched, Absent, Found, Unknown, fetch_in}
 use Rattle.elf32_read.specs.declared.run.Run.{Run}
@@ -30,6 +30,14 @@ sites_in code rs = filter_map (site_at code) (addresses rs)
 abbrev pub Ascend : ℕ → List Site → Type 0
 Ascend from [] = Unit {0}
 Ascend from (s ∷ ss) = (from ≤ s.at) × Ascend (s.at + 1) ss
+
+-- a site's instruction ends below the highest page or at it
+abbrev pub EndsLow : Site → Type 0
+EndsLow s = s.at + s.len ≤ 0xFFFFF000
+
+-- a site's instruction has 1 to 15 bytes
+abbrev pub HasLength : Site → Type 0
+HasLength s = (0 < s.len) × (s.len ≤ 15)
 
 -- all sites of executable bytes and nothing else, ascending
 pub record AreSites (code : ℕ → Option ℕ) (found : List Site) : Type 0 where

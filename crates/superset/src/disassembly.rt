@@ -1,8 +1,9 @@
 //! Superset disassembly: decoding at every byte of the runs.
 
 ghost use Rattle.std.specs.Prelude.{◌≡◌, ◌+◌, ◌<◌, ◌≤◌, [], ◌∷◌, ◌++◌, length, IfOk, OnOk};
+ghost use Rattle.std.specs.List.{AllByRecursion};
 ghost use Rattle.elf32_read.specs.Runs.{code_of, AreSpread};
-ghost use Rattle.superset.specs.Sites.{site_at, sites_in, AreSites};
+ghost use Rattle.superset.specs.Sites.{site_at, sites_in, AreSites, EndsLow, HasLength};
 
 use crate::site::Site;
 use elf32_read::Run;
@@ -24,6 +25,8 @@ pub fn sites(alloc: Global, runs: &[Run]) -> Result<Vec<Site>, NoMemory>
     requires { AreSpread 0 runs.now }
     ensures listed { IfOk result (λ found. found.items ≡ sites_in (code_of runs.now) runs.now) }
     ensures exact { IfOk result (λ found. AreSites (code_of runs.now) found.items) }
+    ensures ends { IfOk result (λ found. AllByRecursion EndsLow found.items) }
+    ensures lengths { IfOk result (λ found. AllByRecursion HasLength found.items) }
 {
     let mut found = Vec::new(alloc);
     for run in runs {
