@@ -1,0 +1,3 @@
+-- why the code gives what the definitions say
+pub mod Marks
+pub mod Greedy
