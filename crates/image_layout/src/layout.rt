@@ -1,0 +1,199 @@
+//! The layout of the added block: where it lies, and what is where in it.
+
+ghost use Rattle.std.specs.Prelude.{◌≡◌, ◌+◌, ◌*◌, ◌^◌, ◌<◌, ◌≤◌, length, map, None, Some, IfOk};
+ghost use Rattle.std.specs.List.{AllByRecursion};
+ghost use Rattle.elf32_read.specs.Runs.{code_of, AreApart};
+ghost use Rattle.elf32_write.specs.Format.{up as up_of};
+ghost use Rattle.map_table.specs.Paged.{places as places_of, AreRuns};
+ghost use Rattle.lookup_stub.specs.Stub.{stub_size};
+ghost use Rattle.superset.specs.Sites.{sites_in};
+ghost use Rattle.sequence_join.specs.Chains.{order, EachOnce, IsLinked};
+ghost use Rattle.image_layout.specs.Fit.{first_fit as first_fit_of};
+ghost use Rattle.image_layout.specs.InPlace.{HasPieces};
+ghost use Rattle.image_layout.specs.Laying.{IsLaid, LaysOut};
+ghost use Rattle.image_layout.specs.Layout.{size as size_of, pairs_from as pairs_of, moved as moved_of};
+ghost use Rattle.image_layout.specs.Parts.{parts, parts_len};
+ghost use Rattle.image_layout.specs.Pieces.{piece_lens as piece_lens_of};
+ghost use Rattle.image_layout.specs.Room.{ArePagesApart};
+ghost use Rattle.image_layout.specs.Sites.{AreShort, AreWhole, AreBelow};
+
+use crate::code::put_chains;
+use crate::places::{chains_len, entries, pairs, piece_lens};
+use crate::room::first_fit;
+use elf32_read::{Image, Run};
+use elf32_write::{Form, Plan, RunPlaces};
+use lookup_stub::{stub, stub_len};
+use map_table::{Table, table_len};
+use mv_base::{Addrs, Bytes, NoMemory, RunPlace};
+use sequence_join::Chain;
+use simulation_laws::Anchors;
+use std::alloc::Global;
+use superset::Site;
+use thiserror::Error;
+
+/// How many bytes the private area has without counters.
+const PRIVATE_LEN: u64 = 64;
+
+/// Why a file isn't laid out: no place has room for its block, which has this many bytes, or want of memory.
+#[derive(Debug, Drop, Error)]
+pub enum LayFault {
+    #[error("no room: {0}")]
+    NoRoom(u64),
+    #[error("no memory")]
+    NoMemory,
+}
+
+impl From<NoMemory> for LayFault {
+    ghost use Rattle.std.specs.Prelude.{◌≡◌};
+    ghost use Rattle.image_layout.specs.declared.layout.LayFault.TheVariants as fault;
+
+    ghost from_gives = { λ _ e. e ≡ fault.NoMemory };
+
+    fn from(_error: NoMemory) -> LayFault {
+        LayFault::NoMemory
+    }
+}
+
+/// What is added to a file: the block at the lowest place that has room, with the stub, the chains behind it and the
+/// table of form 2. `admit` takes the image, and the runs, sites and chains are those of its file. The work is linear in the
+/// sites, but for the look-up of an address in the table.
+///
+/// # Errors
+///
+/// `NoRoom` with the block's size exactly where no place has room for it; `NoMemory`.
+pub fn lay(
+    alloc: Global,
+    image: &Image,
+    runs: &[Run],
+    sites: &[Site],
+    chains: &[Chain],
+) -> Result<Plan, LayFault>
+    requires apart { ArePagesApart 0 image.now.segments }
+    requires runs { AreRuns runs.now }
+    requires sites { sites.now ≡ sites_in (code_of runs.now) runs.now }
+    requires once { EachOnce (length sites.now) (order chains.now) }
+    requires linked { AllByRecursion (IsLinked sites.now) chains.now }
+    ensures laid { LaysOut image.now runs.now sites.now chains.now result }
+    ensures in_place { IfOk result (λ plan. HasPieces runs.now sites.now chains.now plan) }
+{
+    let lens = piece_lens(alloc, sites)?;
+    let code_room = up(stub_len(runs.len()) as u64 + chains_len(chains, &lens));
+    let sites_at = addresses(alloc, sites)?;
+    let table_room = up(u64::from(table_len(runs, &sites_at)));
+    let size = code_room + table_room + up(PRIVATE_LEN);
+    match first_fit(image, size) {
+        Some(base) => Ok(lay_at(alloc, image, runs, sites, chains, &lens, base)?),
+        None => Err(LayFault::NoRoom(size)),
+    }
+}
+
+/// A number raised to a multiple of 4,096.
+fn up(n: u64) -> u64
+    requires { n ≤ 2 ^ 32 }
+    ensures { result ≡ up_of n }
+{
+    (n + 4095) / 4096 * 4096
+}
+
+/// The addresses of sites.
+fn addresses(alloc: Global, sites: &[Site]) -> Result<Vec<u32>, NoMemory>
+    ensures { IfOk result (λ found. found.items ≡ map (λ s. s.at) sites.now) }
+{
+    let mut found = Vec::with_capacity(alloc, sites.len())?;
+    for site in sites {
+        found.push(site.at)?;
+    }
+    Ok(found)
+}
+
+/// The runs with the addresses of their directories.
+fn run_places(
+    alloc: Global,
+    runs: &[Run],
+    dirs: &[u32],
+    _lo: u32,
+) -> Result<Vec<RunPlace>, NoMemory>
+    requires apart { AreApart 0 runs.now }
+    requires dirs_are { dirs.now ≡ map (λ r. r.dir) (places_of runs.now _lo) }
+    ensures { IfOk result (λ places. places.items ≡ places_of runs.now _lo) }
+{
+    let mut places = Vec::with_capacity(alloc, runs.len())?;
+    for (index, run) in runs.iter().enumerate() {
+        places.push(RunPlace {
+            lo: run.lo,
+            len: run.bytes.len() as u32,
+            dir: dirs[index],
+        })?;
+    }
+    Ok(places)
+}
+
+/// Where an address goes by a table: its new address, or itself where it has none.
+pub fn moved(table: &Table<'_>, address: u32) -> u32
+    ensures { result ≡ moved_of table.now.pairs address }
+{
+    let entry = table.entry(address).unwrap_or(0);
+    if entry == 0 { address } else { entry }
+}
+
+/// Each site's address with its entry, where the chains begin at `first`.
+fn entry_pairs(
+    alloc: Global,
+    sites: &[Site],
+    chains: &[Chain],
+    lens: &[u8],
+    first: u32,
+) -> Result<Vec<(u32, u32)>, NoMemory>
+    requires lens_are { lens.now ≡ piece_lens_of sites.now }
+    requires below { AreBelow (length sites.now) chains.now }
+    requires room { first + parts_len lens.now (parts chains.now) < 2 ^ 32 }
+    ensures { IfOk result (λ found. found.items ≡ pairs_of sites.now chains.now first) }
+{
+    let entries = entries(alloc, chains, lens, first)?;
+    pairs(alloc, sites, &entries)
+}
+
+/// What is added to a file, where the block lies at `base`.
+fn lay_at(
+    alloc: Global,
+    image: &Image,
+    runs: &[Run],
+    sites: &[Site],
+    chains: &[Chain],
+    lens: &[u8],
+    base: u32,
+) -> Result<Plan, NoMemory>
+    requires runs { AreRuns runs.now }
+    requires sites { sites.now ≡ sites_in (code_of runs.now) runs.now }
+    requires once { EachOnce (length sites.now) (order chains.now) }
+    requires linked { AllByRecursion (IsLinked sites.now) chains.now }
+    requires lens_are { lens.now ≡ piece_lens_of sites.now }
+    requires base_is { first_fit_of image.now.segments (size_of runs.now sites.now chains.now)
+        ≡ Some base }
+    ensures laid { IfOk result (λ plan. IsLaid image.now runs.now sites.now chains.now plan) }
+    ensures in_place { IfOk result (λ plan. HasPieces runs.now sites.now chains.now plan) }
+{
+    let stub_len = stub_len(runs.len());
+    let chains_len = chains_len(chains, lens);
+    let pairs = entry_pairs(alloc, sites, chains, lens, base + stub_len as u32)?;
+    let lo = base + up(stub_len as u64 + chains_len) as u32;
+    let table = Table::build(alloc, runs, &pairs, lo)?;
+    let run_places = run_places(alloc, runs, table.dirs(), lo)?;
+    let anchors = Anchors {
+        stub: base,
+        private: lo + up(table.bytes().len() as u64) as u32,
+    };
+    let mut code = stub(alloc, &run_places, anchors.private)?;
+    code.reserve(chains_len as usize)?;
+    put_chains(runs, &table, sites, chains, anchors, &mut code)?;
+    let entry = moved(&table, image.entry);
+    Ok(Plan {
+        form: Form::Paged,
+        base,
+        code: Bytes::new(code),
+        table: table.into_bytes(),
+        counted: Addrs::new(Vec::new(alloc)),
+        runs: RunPlaces::new(run_places),
+        entry,
+    })
+}

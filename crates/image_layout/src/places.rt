@@ -1,0 +1,143 @@
+//! Where the pieces of sites stand, by their lengths alone.
+
+ghost use Rattle.std.specs.Prelude.{◌≡◌, ℕ, ◌+◌, ◌<◌, ◌≤◌, ◌^◌, length, slice_index, IfOk};
+ghost use Rattle.std.specs.List.{All};
+ghost use Rattle.image_layout.specs.Layout.{pairs_by};
+ghost use Rattle.image_layout.specs.Parts.{chain_parts, parts, parts_len, placed, place_or, entry};
+ghost use Rattle.image_layout.specs.Pieces.{piece_len as piece_len_of, piece_lens as piece_lens_of};
+ghost use Rattle.image_layout.specs.Sites.{AreShort, IsShort, AreBelow};
+
+use branch_lengthen::near_len;
+use call_rewrite::far_len;
+use mv_base::NoMemory;
+use sequence_join::Chain;
+use std::alloc::Global;
+use superset::Site;
+use x86_insn::Flow;
+
+/// How many bytes a join has.
+const JOIN_LEN: u32 = 5;
+
+/// How many bytes the pieces of sites have, site by site.
+///
+/// # Errors
+///
+/// `NoMemory`.
+pub fn piece_lens(alloc: Global, sites: &[Site]) -> Result<Vec<u8>, NoMemory>
+    requires { AreShort sites.now }
+    ensures { IfOk result (λ lens. lens.items ≡ piece_lens_of sites.now) }
+{
+    let mut lens = Vec::with_capacity(alloc, sites.len())?;
+    for site in sites {
+        lens.push(piece_len(site))?;
+    }
+    Ok(lens)
+}
+
+/// How many bytes the piece of a site has.
+fn piece_len(site: &Site) -> u8
+    requires { IsShort site.now }
+    ensures { result ≡ piece_len_of site.now }
+{
+    match site.insn.next_kind() {
+        Flow::Plain | Flow::System | Flow::Trap => site.len,
+        Flow::Jump => near_len(site) as u8,
+        Flow::Branch => near_len(site) as u8,
+        Flow::Count => near_len(site) as u8,
+        Flow::Call => far_len(site) as u8,
+        Flow::JumpVia => far_len(site) as u8,
+        Flow::CallVia => far_len(site) as u8,
+        Flow::Return => far_len(site) as u8,
+    }
+}
+
+/// How many bytes chains have, by the lengths of the sites' pieces.
+pub fn chains_len(chains: &[Chain], lens: &[u8]) -> u64
+    requires below { AreBelow (length lens.now) chains.now }
+    requires room { parts_len lens.now (parts chains.now) < 2 ^ 32 }
+    ensures { result ≡ parts_len lens.now (parts chains.now) }
+{
+    let mut len = 0;
+    for chain in chains {
+        len += chain_len(chain, lens);
+    }
+    len
+}
+
+/// How many bytes a chain has.
+fn chain_len(chain: &Chain, lens: &[u8]) -> u64
+    requires below { All (λ k. k < length lens.now) chain.now.links }
+    requires room { parts_len lens.now (chain_parts chain.now) < 2 ^ 32 }
+    ensures { result ≡ parts_len lens.now (chain_parts chain.now) }
+{
+    let mut len = 0;
+    for link in chain.links.as_slice() {
+        len += u64::from(lens[*link as usize]);
+    }
+    match chain.next {
+        Some(_) => len + u64::from(JOIN_LEN),
+        None => len,
+    }
+}
+
+/// The entries of all sites, by their indexes, where the chains begin at `first`; 0 for a site that is in no chain.
+///
+/// # Errors
+///
+/// `NoMemory`.
+pub fn entries(
+    alloc: Global,
+    chains: &[Chain],
+    lens: &[u8],
+    first: u32,
+) -> Result<Vec<u32>, NoMemory>
+    requires below { AreBelow (length lens.now) chains.now }
+    requires room { first + parts_len lens.now (parts chains.now) < 2 ^ 32 }
+    ensures count { IfOk result (λ found. length found.items ≡ length lens.now) }
+    ensures are { IfOk result (λ found. (k : ℕ) →
+        slice_index found.items k ≡ entry lens.now first (parts chains.now) k) }
+{
+    let mut entries = vec![in alloc; 0; lens.len()]?;
+    let mut here = first;
+    for chain in chains {
+        here = place_chain(chain, lens, here, &mut entries);
+    }
+    Ok(entries)
+}
+
+/// Gives the sites of a chain that begins at `from` their entries, and answers where it ends.
+fn place_chain(chain: &Chain, lens: &[u8], from: u32, entries: &mut [u32]) -> u32
+    requires below { All (λ k. k < length lens.now) chain.now.links }
+    requires count { length entries.old ≡ length lens.now }
+    requires room { from + parts_len lens.now (chain_parts chain.now) < 2 ^ 32 }
+    ensures end { result ≡ from + parts_len lens.now (chain_parts chain.now) }
+    ensures are { (k : ℕ) → slice_index entries.new k
+        ≡ place_or (slice_index entries.old k) (placed lens.now from (chain_parts chain.now)) k }
+{
+    let mut here = from;
+    for link in chain.links.as_slice() {
+        entries[*link as usize] = here;
+        here += u32::from(lens[*link as usize]);
+    }
+    match chain.next {
+        Some(_) => here + JOIN_LEN,
+        None => here,
+    }
+}
+
+/// Each site's address with its entry.
+///
+/// # Errors
+///
+/// `NoMemory`.
+pub fn pairs(alloc: Global, sites: &[Site], entries: &[u32]) -> Result<Vec<(u32, u32)>, NoMemory>
+    requires { length sites.now ≤ length entries.now }
+    ensures { IfOk result (λ pairs. pairs.items
+        ≡ pairs_by (λ k. slice_index entries.now k) 0 sites.now) }
+{
+    let mut pairs = Vec::with_capacity(alloc, sites.len())?;
+    for (index, site) in sites.iter().enumerate() {
+        pairs.push((site.at, entries[index]))?;
+    }
+    Ok(pairs)
+}
