@@ -22,14 +22,18 @@ use Rattle.elf32_write.specs.declared.plan.Plan.{Plan}
 use Rattle.elf32_write.specs.File.{added_len, file_of}
 use Rattle.elf32_write.specs.Frame.{Frame}
 use Rattle.elf32_write.specs.Writing.{EndsLow}
-use Rattle.mv_rewrite.specs.declared.layout.LayFault.{LayFault}
-use Rattle.mv_rewrite.specs.declared.layout.LayFault.TheVariants as lay_fault
+use Rattle.image_layout.specs.declared.layout.LayFault.{LayFault}
+use Rattle.image_layout.specs.declared.layout.LayFault.TheVariants as lay_fault
 use Rattle.mv_rewrite.specs.declared.rewriting.Rewritten.{Rewritten}
 use Rattle.mv_rewrite.specs.declared.rewriting.RewriteFault.{RewriteFault}
 use Rattle.superset.specs.declared.site.Site.{Site}
 use Rattle.mv_rewrite.specs.Sites.{sites, sites_in}
-use Rattle.mv_rewrite.specs.Layout.{base_of, size, plan_at}
-use Rattle.mv_rewrite.specs.Laying.{IsLaid, LaysOut}
+use Rattle.sequence_join.specs.declared.chain.Chain.{Chain}
+use Rattle.image_layout.specs.Fit.{first_fit}
+use Rattle.image_layout.specs.Laying.{IsLaid, LaysOut}
+use Rattle.image_layout.specs.Layout as layout
+use Rattle.image_layout.specs.laws.LayFacts.{AreLaid}
+use Rattle.mv_rewrite.specs.Layout.{base_of, size, chains, plan_at, IsPlanned}
 use Rattle.mv_rewrite.specs.Rewriting.{laid_fault, IsRewritten}
 use Rattle.mv_rewrite.specs.Output.{output, output_at}
 use Rattle.simulation_laws.specs.Stopping.{Simulates}
@@ -40,24 +44,24 @@ use Rattle.mv_rewrite.proofs.Recorded.{frame_is}
 use Rattle.mv_rewrite.proofs.Outputs.{simulated, image_input}
 use Rattle.mv_rewrite.proofs.OutputFacts.{written_for}
 
-added_by : (b : List ℕ) (base : ℕ) → added_len (plan_at b base) ≡ size b
-added_by b base =
-    let c = length-code b base in
+added_by : (b : List ℕ) (base : ℕ) → AreLaid (runs_of b) (sites b) (chains b) → added_len (plan_at b base) ≡ size b
+added_by b base laid =
+    let c = length-code b base laid in
     let t = length-table_of b base in
     let k = length-counted b base in
     omega (arith, c, t, k, size_is b base)
 
--- the block of a laid plan has the file's size
-pub added_is : (b : List ℕ) (p : Plan) → IsLaid b p → added_len p ≡ size b
-added_is b p laid = ap added_len laid.plan_is ∙ added_by b p.base
+-- the block of a planned file has the file's size
+pub added_is : (b : List ℕ) (p : Plan) → AreLaid (runs_of b) (sites b) (chains b) → IsPlanned b p → added_len p ≡ size b
+added_is b p laid is = ap added_len is.plan_is ∙ added_by b p.base laid
 
-pub ends_low : (b : List ℕ) (p : Plan) → IsLaid b p → EndsLow p
-ends_low b p laid =
-    let room = has_room_at b p.base laid.base_is in
-    omega (arith, room.low, added_is b p laid)
+pub ends_low : (b : List ℕ) (p : Plan) → AreLaid (runs_of b) (sites b) (chains b) → IsPlanned b p → EndsLow p
+ends_low b p laid is =
+    let room = has_room_at b p.base is.base_is in
+    omega (arith, room.low, added_is b p laid is)
 
 -- the plan of a file within the limits has few runs
-pub few_runs : (b : List ℕ) (p : Plan) → limit_fault b ≡ None → IsLaid b p → length p.runs ≤ 64
+pub few_runs : (b : List ℕ) (p : Plan) → limit_fault b ≡ None → IsPlanned b p → length p.runs ≤ 64
 few_runs b p admitted laid =
     omega (arith, ap (λ (q : Plan). length q.runs) laid.plan_is, ap (λ (l : List RunPlace). length l) (plan_runs b p.base), length-runs_at b p.base, length-runs_of b, header_count-admitted b admitted)
 
@@ -79,8 +83,8 @@ unfolding refusal
 excess_fault b image f is fault =
     ap (λ (o : Option ImageFault). or_else o (limit_fault b)) is.whole ∙ sym (exceeded-image b image is) ∙ fault
 
--- the file of a laid plan is the output
-pub output_is : (b : List ℕ) (p : Plan) → IsLaid b p → output b ≡ Some (file_of b p)
+-- the file of a file's plan is the output
+pub output_is : (b : List ℕ) (p : Plan) → IsPlanned b p → output b ≡ Some (file_of b p)
 unfolding output
 output_is b p laid = ap (option_map (output_at b)) laid.base_is ∙ ap (λ (q : Plan). Some (file_of b q)) (sym laid.plan_is)
 
@@ -115,13 +119,35 @@ all_written b (Ok r) bytes small is =
     (frame_is b o.base, subst (λ (x : List ℕ). IsWrittenFor b x (frame_is b o.base)) o.same (written_for b o.base o.input))
 all_written b (Err e) bytes small is = tt
 
--- the answer where a file with no fault wasn't laid out
-no_plan : (b : List ℕ) (fault : LayFault) → refusal b ≡ None → LaysOut b (Err fault) → IsRewritten b (Err (laid_fault fault))
-no_plan b (lay_fault.NoRoom n) whole is = record { whole = whole; full = is.0; size_is = is.1 }
-no_plan b lay_fault.NoMemory whole is = tt
+-- ---- from the image's runs, sites and chains to the file's
 
-pub laid_passes : (b : List ℕ) (fault : LayFault) (e : RewriteFault) → refusal b ≡ None → LaysOut b (Err fault) → e ≡ laid_fault fault → IsRewritten b (Err e)
-laid_passes b fault e whole is passed = subst (λ (x : RewriteFault). IsRewritten b (Err x)) (sym passed) (no_plan b fault whole is)
+-- the segments and the entry are the file's, and so are its runs, sites and chains
+pub record AreOf (b : List ℕ) (image : Image) (rs : List Run) (ss : List Site) (cs : List Chain) : Type 0 where
+  pub image_is : IsImage b image
+  pub runs_are : rs ≡ runs_of b
+  pub sites_are : ss ≡ sites b
+  pub chains_are : cs ≡ chains b
+
+same_size : (b : List ℕ) (image : Image) (rs : List Run) (ss : List Site) (cs : List Chain) → AreOf b image rs ss cs → layout.size rs ss cs ≡ size b
+same_size b image rs ss cs of = λ i. layout.size (of.runs_are i) (of.sites_are i) (of.chains_are i)
+
+base_is : (b : List ℕ) (image : Image) (rs : List Run) (ss : List Site) (cs : List Chain) → AreOf b image rs ss cs → first_fit image.segments (layout.size rs ss cs) ≡ base_of b
+unfolding base_of
+base_is b image rs ss cs of = λ i. first_fit (of.image_is.segments_are i) (same_size b image rs ss cs of i)
+
+pub planned : (b : List ℕ) (image : Image) (rs : List Run) (ss : List Site) (cs : List Chain) (p : Plan) → AreOf b image rs ss cs → IsLaid image rs ss cs p → IsPlanned b p
+planned b image rs ss cs p of laid = record {
+  base_is = sym (base_is b image rs ss cs of) ∙ laid.base_is;
+  plan_is = laid.plan_is ∙ (λ i. layout.plan (of.image_is.entry i) (of.runs_are i) (of.sites_are i) (of.chains_are i) p.base);
+}
+
+-- the answer where a file with no fault wasn't laid out
+no_plan : (b : List ℕ) (image : Image) (rs : List Run) (ss : List Site) (cs : List Chain) (fault : LayFault) → AreOf b image rs ss cs → refusal b ≡ None → LaysOut image rs ss cs (Err fault) → IsRewritten b (Err (laid_fault fault))
+no_plan b image rs ss cs (lay_fault.NoRoom n) of whole is = record { whole = whole; full = sym (base_is b image rs ss cs of) ∙ is.0; size_is = is.1 ∙ same_size b image rs ss cs of }
+no_plan b image rs ss cs lay_fault.NoMemory of whole is = tt
+
+pub laid_passes : (b : List ℕ) (image : Image) (rs : List Run) (ss : List Site) (cs : List Chain) (fault : LayFault) (e : RewriteFault) → AreOf b image rs ss cs → refusal b ≡ None → LaysOut image rs ss cs (Err fault) → e ≡ laid_fault fault → IsRewritten b (Err e)
+laid_passes b image rs ss cs fault e of whole is passed = subst (λ (x : RewriteFault). IsRewritten b (Err x)) (sym passed) (no_plan b image rs ss cs fault of whole is)
 
 -- the placed sites of the runs are those of the file
 pub sites_are : (b : List ℕ) (rs : List Run) (ss : List Site) → load_refusal b ≡ None → rs ≡ runs_of b → ss ≡ sites_in (code_of rs) rs → ss ≡ sites b

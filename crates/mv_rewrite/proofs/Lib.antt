@@ -1,12 +1,7 @@
 -- why the code gives what the definitions say
 pub mod Instance
-pub mod FoundSites
-pub mod Fit
-pub mod SiteList
-pub mod SlotSteps
 pub mod LayoutFacts
 -- what stands where in an output, and how it loads, lowest first
-pub mod SlotPlaces
 pub mod PlacedPlan
 pub mod Fine
 pub mod NewHeaders

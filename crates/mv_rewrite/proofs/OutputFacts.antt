@@ -1,5 +1,5 @@
 -- The file of an input is what is written for it.
-use Rattle.std.proofs.Common.{◌≡◌, ℕ, ◌+◌, ◌<◌, true, false, List, length, Some, None, refl, sym, ap, ◌∙◌, arith}
+use Rattle.std.proofs.Common.{◌≡◌, ℕ, ◌+◌, ◌<◌, true, false, List, length, Option, Some, None, refl, sym, ap, ◌∙◌, subst, arith}
 use mathlib.Core.Path.{fun_ext}
 use Rattle.std.specs.Prelude.{slice_index}
 use Rattle.mv_base.specs.Memory.{within}
@@ -8,15 +8,20 @@ use Rattle.elf32_read.specs.Load.{load}
 use Rattle.elf32_write.specs.Format.{up}
 use Rattle.elf32_write.specs.Within.{within_parts}
 use Rattle.elf32_write.specs.File.{code_place, with_added}
-use Rattle.elf32_write.specs.Frame.{frame_input, frame_code, frame_table, frame_map, is_added, is_private}
-use Rattle.mv_rewrite.specs.Sites.{code_in, sites}
-use Rattle.mv_rewrite.specs.Layout.{code_len, table_len, table_from, moved, pairs_at, runs_at, anchors_at, code, plan_at}
+use Rattle.elf32_write.specs.Frame.{frame_input, frame_code, frame_table, frame_entry, frame_map, is_added, is_private}
+use Rattle.elf32_read.specs.Runs.{runs_of, code_of}
+use Rattle.map_table.specs.Pairs.{entry_in}
+use Rattle.superset.specs.declared.site.Site.{Site}
+use Rattle.image_layout.specs.Layout.{plan}
+use Rattle.mv_rewrite.specs.Sites.{site_at, code_in, sites}
+use Rattle.mv_rewrite.specs.Layout.{chains, code_len, table_len, table_from, moved, pairs_at, runs_at, anchors_at, code, plan_at}
+use Rattle.mv_rewrite.proofs.LayoutFacts.{same_code}
 use Rattle.simulation_laws.specs.Relocated.{anchors_of}
 use Rattle.mv_rewrite.specs.Output.{output_at}
 use Rattle.mv_rewrite.specs.OutputFile.{IsWrittenFor}
-use Rattle.mv_rewrite.proofs.PlacedPlan.{entries, none, map_is}
+use Rattle.mv_rewrite.proofs.PlacedPlan.{entries, none, map_is, inside, differ}
 use Rattle.mv_rewrite.proofs.NewHeaders.{Block, code_of_block, table_of_block, private_of_block, block_headers}
-use Rattle.mv_rewrite.proofs.NewCells.{header_cell, cells_of, loads, cell_outside, three, InBlock, output_in, private_cell}
+use Rattle.mv_rewrite.proofs.NewCells.{within_is, header_cell, cells_of, loads, cell_outside, three, InBlock, output_in, private_cell}
 use Rattle.mv_rewrite.proofs.Planned.{length-code, length-table, size_is, IsInput, block, wrote, is_block, headers_apart, output_headers}
 use Rattle.elf32_write.specs.ReadBack.{taken}
 use Rattle.mv_rewrite.proofs.Recorded.{frame_is, table_there}
@@ -42,14 +47,25 @@ module _ (b : List ℕ) (base : ℕ) (is : IsInput b base) where
   input_there = taken x b 0x1000 (length b) refl (wrote b base is).input_stands
 
   code_there : frame_code (frame_is b base) ≡ (plan_at b base).code
-  code_there = taken x (plan_at b base).code (code_place (length b)) (code_len b) (length-code b base) (wrote b base is).code_stands
+  code_there = taken x (plan_at b base).code (code_place (length b)) (code_len b) (length-code b base is.laid) (wrote b base is).code_stands
 
   maps_so : (a : ℕ) → frame_map (frame_is b base) a ≡ moved (pairs_at b base) a
   maps_so a = map_is b base x (frame_is b base) (is_placed b base is) a
 
-  code_is : (plan_at b base).code ≡ code (anchors_of (frame_is b base)) (frame_map (frame_is b base)) (code_in b) (runs_at b base) (sites b)
-  unfolding plan_at
-  code_is = ap (λ (m : ℕ → ℕ). code (anchors_at b base) m (code_in b) (runs_at b base) (sites b)) (sym (fun_ext maps_so))
+  code_is : (plan_at b base).code ≡ code (anchors_of (frame_is b base)) (frame_map (frame_is b base)) (code_in b) (runs_at b base) (sites b) (chains b)
+  unfolding plan
+  code_is =
+      ap (λ (m : ℕ → ℕ). code (anchors_at b base) m (code_of (runs_of b)) (runs_at b base) (sites b) (chains b)) (sym (fun_ext maps_so))
+      ∙ ap (λ (c : ℕ → Option ℕ). code (anchors_at b base) (frame_map (frame_is b base)) c (runs_at b base) (sites b) (chains b)) (sym (same_code (code_in b) (code_of (runs_of b)) is.code))
+
+  -- the frame's entries are the pairs'
+  entries_so : (a : ℕ) → frame_entry (frame_is b base) a ≡ entry_in (pairs_at b base) a
+  entries_so = entries b base x (frame_is b base) (is_placed b base is)
+
+  entry_inside : (a : ℕ) (s : Site) → site_at (code_in b) a ≡ Some s → (0 < frame_entry (frame_is b base) a) × (within base (code_len b) (frame_entry (frame_is b base) a) ≡ true)
+  entry_inside a s e =
+      let q = inside b base x (frame_is b base) (is_placed b base is) a s e in
+      subst (λ n. (0 < n) × (within base (code_len b) n ≡ true)) (sym (entries_so a)) (q.0, within_is base (code_len b) (entry_in (pairs_at b base) a) q.1 q.2)
 
   -- in the block it loads the cells of the added headers
   in_block : (a : ℕ) → is_added (frame_is b base) a ≡ true → InBlock (block b base is) a
@@ -64,7 +80,7 @@ module _ (b : List ℕ) (base : ℕ) (is : IsInput b base) where
 
   code_cells : (k : ℕ) → k < code_len b → load x (base + k) ≡ Some (record { byte = slice_index (frame_code (frame_is b base)) k; write = false; exec = true })
   code_cells k lt =
-      (is_placed b base is).cells k (omega (arith, lt, length-code b base))
+      (is_placed b base is).cells k (omega (arith, lt, length-code b base is.laid))
       ∙ ap (λ (l : List ℕ). Some (record { byte = slice_index l k; write = false; exec = true })) (sym code_there)
 
   table_cells : (k : ℕ) → k < table_len b → load x (table_from b base + k) ≡ Some (record { byte = slice_index (frame_table (frame_is b base)) k; write = false; exec = false })
@@ -90,7 +106,10 @@ module _ (b : List ℕ) (base : ℕ) (is : IsInput b base) where
         form = refl;
         runs = refl;
         code_is = code_there ∙ code_is;
-        entries = entries b base x (frame_is b base) (is_placed b base is);
+        entries = entries_so;
+        inside = entry_inside;
+        differ = λ a c s q e g same. differ b base x (frame_is b base) (is_placed b base is) a c s q e g (sym (entries_so a) ∙ (same ∙ entries_so c));
+        pieces = r.pieces;
         none = none b base x (frame_is b base) (is_placed b base is);
         maps = maps_so;
         entry = r.entry;

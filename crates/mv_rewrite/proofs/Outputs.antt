@@ -2,15 +2,13 @@
 use Rattle.std.proofs.Common.{◌≡◌, ℕ, ◌≤◌, List, length, Some, None, refl}
 use Rattle.mv_base.specs.Bytes.{AreBytes}
 use Rattle.elf32_read.specs.Faults.{load_refusal, limit_fault}
-use Rattle.elf32_read.specs.Runs.{runs_of}
 use Rattle.elf32_read.specs.RunCount.{header_count-admitted}
 use Rattle.elf32_read.specs.Segments.{code_of-runs_of}
-use Rattle.mv_rewrite.specs.Sites.{sites}
 use Rattle.mv_rewrite.specs.Layout.{base_of}
 use Rattle.mv_rewrite.specs.Output.{output_at}
 use Rattle.simulation_laws.specs.Stopping.{Simulates}
 use Rattle.mv_rewrite.proofs.Planned.{IsInput}
-use Rattle.mv_rewrite.proofs.LayoutFacts.{lay_facts, room_facts, made_of}
+use Rattle.mv_rewrite.proofs.LayoutFacts.{are_laid}
 use Rattle.mv_rewrite.proofs.Recorded.{frame_is}
 use Rattle.mv_rewrite.proofs.Relocating.{relocated}
 use Rattle.simulation_laws.specs.laws.Simulating.{relocated_simulates}
@@ -27,7 +25,5 @@ image_input b base whole admitted bytes small at = record {
   few_headers = header_count-admitted b admitted;
   base_is = at;
   code = code_of-runs_of b whole;
-  made =
-      let facts = lay_facts b (runs_of b) (sites b) whole admitted refl refl in
-      made_of b (runs_of b) (sites b) base facts (room_facts b (runs_of b) (sites b) base facts at);
+  laid = are_laid b whole admitted;
 }

@@ -1,5 +1,5 @@
 -- From where the plan's bytes are loaded to what stands at each site's entry, and to the stub and the table.
-use Rattle.std.proofs.Common.{◌≡◌, ℕ, zero, suc, ◌+◌, ◌-◌, ◌*◌, ◌/◌, ◌^◌, ◌<◌, ◌≤◌, true, false, cond, eqb, ltb, leb, List, [], ◌∷◌, ◌++◌, length, Option, Some, None, refl, sym, ap, ◌∙◌, subst, inr, arith, length-append}
+use Rattle.std.proofs.Common.{◌≡◌, ℕ, zero, suc, ◌+◌, ◌-◌, ◌*◌, ◌/◌, ◌^◌, ◌<◌, ◌≤◌, true, false, cond, eqb, ltb, leb, List, [], ◌∷◌, ◌++◌, length, Option, Some, None, refl, sym, ap, ◌∙◌, subst, inl, inr, arith}
 use mathlib.Core.Path.{fun_ext}
 use Rattle.std.specs.Prelude.{slice_index, replicate}
 use Rattle.std.specs.List.{AllByRecursion}
@@ -22,18 +22,25 @@ use Rattle.map_table.specs.laws.Reading.{Laws, made_laws}
 use Rattle.lookup_stub.specs.Stub.{stub, stub_size}
 use Rattle.lookup_stub.specs.Finding as finding
 use Rattle.superset.specs.declared.site.Site.{Site}
-use Rattle.superset.specs.Sites.{addresses}
-use Rattle.superset.specs.RunAddresses.{address_among}
 use Rattle.simulation_laws.specs.declared.anchors.Anchors.{Anchors}
-use Rattle.mv_rewrite.specs.Sites.{site_at, code_in, sites}
-use Rattle.mv_rewrite.specs.Pieces.{piece, join, with_join, successor, slot_len, slot, slots}
-use Rattle.step_laws.specs.Jumps.{jump_bytes}
-use Rattle.mv_rewrite.specs.Layout.{places, moved, stub_len, code_len, table_len, size, table_from, private_from, pairs_at, runs_at, anchors_at, code, plan_at}
+use Rattle.simulation_laws.specs.Pieces.{piece, successor}
 use Rattle.simulation_laws.specs.Relocated.{StandAt, PieceAt, piece_there, anchors_of}
-use Rattle.mv_rewrite.proofs.FoundSites.{IsSiteAt, is_site_at, sites-listed}
+use Rattle.step_laws.specs.Jumps.{jump_bytes}
+use Rattle.elf32_write.specs.Parts.{Stands, stands_whole, stands_left}
 use Rattle.elf32_write.specs.Written.{up-le}
-use Rattle.mv_rewrite.proofs.SlotPlaces.{length-with_join, HasSlot, has_slot, no_entry, entry_in-le}
-use Rattle.mv_rewrite.proofs.Planned.{length-runs_at, length-stub, length-code, length-table}
+use Rattle.image_layout.specs.InPlace.{IsInPlace}
+use Rattle.image_layout.specs.Layout.{plan}
+use Rattle.image_layout.specs.Layout as layout
+use Rattle.image_layout.specs.Pieces.{piece_len, chain_code}
+use Rattle.image_layout.specs.Sites.{IsWhole}
+use Rattle.image_layout.specs.laws.Sizes.{piece_sized}
+use Rattle.image_layout.specs.laws.SiteFacts.{is_site_at, IsListed, site_there}
+use Rattle.image_layout.specs.laws.LayFacts.{AreLaid, HasBase, made, entry_most}
+use Rattle.image_layout.specs.laws.InPlacing.{no_entry, entry_inside, entries_differ, in_place}
+use Rattle.mv_rewrite.specs.Sites.{site_at, code_in, sites}
+use Rattle.mv_rewrite.specs.Layout.{moved, code, chains, code_len, table_len, size, table_from, private_from, pairs_at, runs_at, anchors_at, plan_at}
+use Rattle.mv_rewrite.proofs.LayoutFacts.{same_code}
+use Rattle.mv_rewrite.proofs.Planned.{length-code, length-table}
 
 -- words are bytes
 word_bytes : (n k : ℕ) → slice_index (little_bytes 4 n) k < 256
@@ -88,42 +95,40 @@ pub record IsPlaced (b : List ℕ) (base : ℕ) (x : List ℕ) (f : Frame) : Typ
   pub low : base + size b ≤ 0xB0000000
   -- the input's executable bytes are those of its runs
   pub code : (a : ℕ) → code_in b a ≡ code_of (runs_of b) a
-  pub made : IsMade (record { runs = runs_of b; pairs = pairs_at b base; lo = table_from b base })
+  pub laid : AreLaid (runs_of b) (sites b) (chains b)
+  pub based : HasBase (runs_of b) (sites b) (chains b) laid base
 
 module _ (b : List ℕ) (base : ℕ) (x : List ℕ) (f : Frame) (h : IsPlaced b base x f) where
-  -- where the slots begin
-  abbrev first : ℕ
-  first = base + stub_len b
-
   abbrev move : ℕ → ℕ
   move = moved (pairs_at b base)
 
-  slots-le : stub_len b + 32 * length (sites b) ≤ up (code_len b)
-  slots-le = omega (arith, up-le (code_len b))
+  -- the code's bytes, by address
+  same_bytes : code_in b ≡ code_of (runs_of b)
+  same_bytes = same_code (code_in b) (code_of (runs_of b)) h.code
 
   size-code : up (code_len b) + up (table_len b) + 64 ≤ size b
-  unfolding size
+  unfolding layout.size
   size-code = omega (arith, up-le (private_len 0))
 
-  entry-bound : (a : ℕ) → entry_in (pairs_at b base) a < 2 ^ 32
-  entry-bound a = omega (arith, entry_in-le (sites b) first a, slots-le, size-code, h.low)
+  made_at : IsMade (record { runs = runs_of b; pairs = pairs_at b base; lo = table_from b base })
+  made_at = made (runs_of b) (sites b) (chains b) h.laid base h.based
 
-  no_code : (a : ℕ) → code_of (runs_of b) a ≡ None → site_at (code_in b) a ≡ None
-  no_code a e = by_site (site_at (code_in b) a) refl
-    where
-      by_site : (o : Option Site) → site_at (code_in b) a ≡ o → o ≡ None
-      by_site None eo = refl
-      by_site (Some s) eo =
-          let q = is_site_at (code_in b) a s eo in
-          absurd (none-some q.starts.0 (sym (h.code a ∙ e) ∙ q.starts.1))
+  entry-bound : (a : ℕ) → entry_in (pairs_at b base) a < 2 ^ 32
+  entry-bound a = omega (arith, entry_most (runs_of b) (sites b) (chains b) h.laid base a, up-le (code_len b), size-code, h.low)
+
+  -- the site at an address is one of the list
+  in_code : (a : ℕ) (o : Option Site) → site_at (code_in b) a ≡ o → site_at (code_of (runs_of b)) a ≡ o
+  in_code a o e = sym (ap (λ (c : ℕ → Option ℕ). site_at c a) same_bytes) ∙ e
+
+  site_listed : (a : ℕ) (s : Site) → site_at (code_in b) a ≡ Some s → IsListed (sites b) s
+  site_listed a s e = site_there (runs_of b) (sites b) h.laid.sites a s (in_code a (Some s) e)
 
   entry-none : (a : ℕ) → site_at (code_in b) a ≡ None → entry_in (pairs_at b base) a ≡ 0
-  entry-none a e =
-      ap (λ (ss : List Site). entry_in (places first ss) a) (sites-listed b) ∙ no_entry (anchors_at b base) move (code_in b) (addresses (runs_of b)) first a e
+  entry-none a e = no_entry (runs_of b) (sites b) (chains b) h.laid base h.based a (in_code a None e)
 
   laws : Laws (record { runs = runs_of b; pairs = pairs_at b base; lo = table_from b base }) (plan_at b base).table
-  unfolding plan_at
-  laws = made_laws (record { runs = runs_of b; pairs = pairs_at b base; lo = table_from b base }) h.made
+  unfolding plan
+  laws = made_laws (record { runs = runs_of b; pairs = pairs_at b base; lo = table_from b base }) made_at
 
   -- the frame's entries are the pairs'
   pub entries : (a : ℕ) → frame_entry f a ≡ entry_in (pairs_at b base) a
@@ -159,122 +164,84 @@ module _ (b : List ℕ) (base : ℕ) (x : List ℕ) (f : Frame) (h : IsPlaced b 
   below_private a high =
       and_left (leb f.private a) (ltb a (f.private + private_len f.counters)) (lt-leb f.private a (omega (arith, high, h.private)))
 
-  site_slot : (a : ℕ) (s : Site) → site_at (code_in b) a ≡ Some s → HasSlot (anchors_at b base) move (code_in b) first (sites b) a s
-  site_slot a s e =
-      let q = is_site_at (code_in b) a s e in
-      let among = address_among (runs_of b) a q.starts.0 (sym (h.code a) ∙ q.starts.1) in
-      subst (λ (ss : List Site). HasSlot (anchors_at b base) move (code_in b) first ss a s) (sym (sites-listed b))
-      (has_slot (anchors_at b base) move (code_in b) (addresses (runs_of b)) first a s among.place among.below among.at e)
-
-  -- the front of what stands there stands there, and what is behind it behind it
-  stands_front : (at : ℕ) (p q : List ℕ) → StandAt x f at (p ++ q) → StandAt x f at p
-  stands_front at p q s =
-      let all = length-append p q in
-      record {
-        byte = λ k lt. s.byte k (omega (arith, lt, all)) ∙ ap Some (get_or_append_left p q 0 k lt);
-        fixed = λ k lt. s.fixed k (omega (arith, lt, all));
-        added = λ k lt. s.added k (omega (arith, lt, all));
-        public = λ k lt. s.public k (omega (arith, lt, all));
-      }
-
-  stands_behind : (at : ℕ) (p q : List ℕ) → StandAt x f at (p ++ q) → StandAt x f (at + length p) q
-  stands_behind at p q s =
-      let all = length-append p q in
-      let place : (k : ℕ) → at + (length p + k) ≡ at + length p + k = λ k. omega arith in
-      record {
-        byte = λ k lt. ap (exec_byte (load x)) (sym (place k)) ∙ (s.byte (length p + k) (omega (arith, lt, all)) ∙ ap Some (get_or-append-add p q k 0));
-        fixed = λ k lt. ap (is_writable (load x)) (sym (place k)) ∙ s.fixed (length p + k) (omega (arith, lt, all));
-        added = λ k lt. ap (is_added f) (sym (place k)) ∙ s.added (length p + k) (omega (arith, lt, all));
-        public = λ k lt. ap (is_private f) (sym (place k)) ∙ s.public (length p + k) (omega (arith, lt, all));
-      }
-
-  -- bytes that are loaded from a place of the code on stand there
-  code_stands : (at : ℕ) (bytes : List ℕ) → at + length bytes ≤ code_len b
-      → ((k : ℕ) → k < length bytes → slice_index (plan_at b base).code (at + k) ≡ slice_index bytes k) → StandAt x f (base + at) bytes
-  code_stands at bytes room there =
-      let place : (k : ℕ) → base + at + k ≡ base + (at + k) = λ k. omega arith in
-      let cell : (k : ℕ) → k < length bytes → load x (base + at + k) ≡ Some (record { byte = slice_index bytes k; write = false; exec = true }) =
-      λ k lt. ap (load x) (place k) ∙ (h.cells (at + k) (omega (arith, lt, room, length-code b base)) ∙ ap (λ n. Some (record { byte = n; write = false; exec = true })) (there k lt)) in
+  -- bytes that stand in the code stand where it is loaded
+  code_stands : (off : ℕ) (bytes : List ℕ) → Stands (plan_at b base).code off bytes → StandAt x f (f.code.lo + off) bytes
+  code_stands off bytes s =
+      let place : (k : ℕ) → f.code.lo + off + k ≡ base + (off + k) = λ k. omega (arith, h.code_lo) in
+      let room : off + length bytes ≤ code_len b = omega (arith, s.room, length-code b base h.laid) in
+      let cell : (k : ℕ) → k < length bytes → load x (f.code.lo + off + k) ≡ Some (record { byte = slice_index bytes k; write = false; exec = true }) =
+      λ k lt. ap (load x) (place k) ∙ (h.cells (off + k) (omega (arith, lt, s.room)) ∙ ap (λ n. Some (record { byte = n; write = false; exec = true })) (s.byte k lt)) in
       record {
         byte = λ k lt. ap exec_byte_of (cell k lt);
         fixed = λ k lt. ap (cell_is (λ c. c.write)) (cell k lt);
-        added = λ k lt. in_added (base + at + k) (omega arith) (omega (arith, lt, room, up-le (code_len b)));
-        public = λ k lt. below_private (base + at + k) (omega (arith, lt, room, up-le (code_len b)));
+        added = λ k lt. in_added (f.code.lo + off + k) (omega (arith, h.code_lo)) (omega (arith, h.code_lo, lt, room, up-le (code_len b)));
+        public = λ k lt. below_private (f.code.lo + off + k) (omega (arith, h.code_lo, lt, room, up-le (code_len b)));
       }
 
-  -- the stub's bytes, and those of the slots
-  stub_byte : (k : ℕ) → k < length (stub 2 (runs_at b base) (private_from b base)) → slice_index (plan_at b base).code (0 + k) ≡ slice_index (stub 2 (runs_at b base) (private_from b base)) k
-  unfolding plan_at code
-  stub_byte k lt =
-      let zero_more : 0 + k ≡ k = omega arith in
-      ap (slice_index (plan_at b base).code) zero_more
-      ∙ get_or_append_left (stub 2 (runs_at b base) (private_from b base)) (slots (anchors_at b base) move (code_in b) (base + stub_size 2 (length (runs_at b base))) (sites b)) 0 k lt
-
-  slot_byte : (k : ℕ) → slice_index (plan_at b base).code (stub_len b + k) ≡ slice_index (slots (anchors_at b base) move (code_in b) first (sites b)) k
-  unfolding plan_at code
-  slot_byte k =
-      let front = stub 2 (runs_at b base) (private_from b base) in
-      let back = slots (anchors_at b base) move (code_in b) (base + stub_size 2 (length (runs_at b base))) (sites b) in
-      ap (λ n. slice_index (front ++ back) (n + k)) (sym (length-stub b base))
-      ∙ (get_or-append-add front back k 0
-      ∙ ap (λ n. slice_index (slots (anchors_at b base) move (code_in b) (base + stub_size 2 n) (sites b)) k) (length-runs_at b base))
-
   -- the code begins with the stub
+  stub_first : Stands (plan_at b base).code 0 (stub 2 (runs_at b base) (private_from b base))
+  unfolding plan layout.code
+  stub_first =
+      let front = stub 2 (runs_at b base) (private_from b base) in
+      stands_left front (chain_code (anchors_at b base) move (code_of (runs_of b)) (sites b) (base + stub_size 2 (length (runs_at b base))) (chains b)) front 0 (stands_whole front)
+
   pub stub_stands : StandAt x f f.code.lo (stub f.form f.runs f.private)
   stub_stands =
-      let start : base + 0 ≡ f.code.lo = omega (arith, h.code_lo) in
-      let all = code_stands 0 (stub 2 (runs_at b base) (private_from b base)) (omega (arith, length-stub b base)) stub_byte in
+      let start : f.code.lo + 0 ≡ f.code.lo = omega arith in
       let e1 : stub 2 (runs_at b base) (private_from b base) ≡ stub f.form f.runs f.private =
       ap (λ n. stub n (runs_at b base) (private_from b base)) (sym h.form_is) ∙ (ap (λ rs. stub f.form rs (private_from b base)) (sym h.runs_are) ∙ ap (stub f.form f.runs) (sym h.private)) in
-      subst (λ n. StandAt x f n (stub f.form f.runs f.private)) start (subst (λ (l : List ℕ). StandAt x f (base + 0) l) e1 all)
-
-  -- the bytes of the piece and the join stand at the slot
-  at_slot : (a : ℕ) (s : Site) (q : IsSiteAt (code_in b) a s) (p : HasSlot (anchors_at b base) move (code_in b) first (sites b) a s)
-      → StandAt x f (first + 32 * p.k) (with_join move (first + 32 * p.k) s (piece (anchors_at b base) move (code_in b) (first + 32 * p.k) s))
-  unfolding slot
-  at_slot a s q p =
-      let here = first + 32 * p.k in
-      let w = with_join move here s (piece (anchors_at b base) move (code_in b) here s) in
-      let short : length w ≤ slot_len = length-with_join (anchors_at b base) move (code_in b) here s q.short in
-      let place : base + (stub_len b + 32 * p.k) ≡ here = omega arith in
-      let there : (i : ℕ) → i < length w → slice_index (plan_at b base).code (stub_len b + 32 * p.k + i) ≡ slice_index w i =
-      λ i lt.
-      let e : stub_len b + 32 * p.k + i ≡ stub_len b + (32 * p.k + i) = omega arith in
-      ap (slice_index (plan_at b base).code) e
-      ∙ (slot_byte (32 * p.k + i)
-      ∙ (p.bytes i (omega (arith, lt, short)) ∙ get_or_append_left w (replicate (slot_len - length w) 0) 0 i lt)) in
-      subst (λ n. StandAt x f n w) place (code_stands (stub_len b + 32 * p.k) w (omega (arith, short, p.among)) there)
-
-  moved-slot : (a : ℕ) (s : Site) (p : HasSlot (anchors_at b base) move (code_in b) first (sites b) a s) → move a ≡ first + 32 * p.k
-  moved-slot a s p =
-      let ne : first + 32 * p.k ≡ 0 → ⊥ = λ e. omega (arith, e, h.positive) in
-      ap (λ n. entry_or n a) p.entry ∙ ap (λ t. cond t a (first + 32 * p.k)) (ne_eqb (first + 32 * p.k) 0 ne)
+      subst (λ n. StandAt x f n (stub f.form f.runs f.private)) start (subst (λ (l : List ℕ). StandAt x f (f.code.lo + 0) l) e1 (code_stands 0 (stub 2 (runs_at b base) (private_from b base)) stub_first))
 
   pub anchors_are : anchors_at b base ≡ anchors_of f
   anchors_are = λ i. record { stub = sym h.code_lo i; private = sym h.private i }
 
-  -- the piece and the join, each for itself
-  piece_and_join : (s : Site) → StandAt x f (frame_map f s.at) (with_join (frame_map f) (frame_map f s.at) s (piece_there b f s)) → PieceAt b x f s
-  piece_and_join s stand =
-      let here = frame_map f s.at in
-      let p = piece_there b f s in
+  -- a site's entry isn't 0 and lies in the code, and no two have one
+  pub inside : (a : ℕ) (s : Site) → site_at (code_in b) a ≡ Some s → (0 < entry_in (pairs_at b base) a) × (base ≤ entry_in (pairs_at b base) a) × (entry_in (pairs_at b base) a < base + code_len b)
+  inside a s e =
+      let q = site_listed a s e in
+      subst (λ n. (0 < entry_in (pairs_at b base) n) × (base ≤ entry_in (pairs_at b base) n) × (entry_in (pairs_at b base) n < base + code_len b)) (is_site_at (code_in b) a s e).here
+      (entry_inside (runs_of b) (sites b) (chains b) h.laid base h.based q.index s q.is)
+
+  pub differ : (a c : ℕ) (s q : Site) → site_at (code_in b) a ≡ Some s → site_at (code_in b) c ≡ Some q → entry_in (pairs_at b base) a ≡ entry_in (pairs_at b base) c → a ≡ c
+  differ a c s q e g same =
+      let k = site_listed a s e in
+      let j = site_listed c q g in
+      let here_s = (is_site_at (code_in b) a s e).here in
+      let here_q = (is_site_at (code_in b) c q g).here in
+      sym here_s ∙ (entries_differ (runs_of b) (sites b) (chains b) h.laid base h.based k.index j.index s q k.is j.is
+      (ap (entry_in (pairs_at b base)) here_s ∙ (same ∙ sym (ap (entry_in (pairs_at b base)) here_q))) ∙ here_q)
+
+  -- the site's piece is in place by the frame's own map
+  in_frame : (a : ℕ) (s : Site) → site_at (code_in b) a ≡ Some s → IsInPlace (anchors_of f) (frame_map f) (code_in b) (plan_at b base).code s
+  unfolding plan
+  in_frame a s e =
+      let q = site_listed a s e in
+      let code : List ℕ = (plan_at b base).code in
+      let moves : frame_map f ≡ move = fun_ext map_is in
+      subst (λ (n : Anchors). IsInPlace n (frame_map f) (code_in b) code s) anchors_are
+      (subst (λ (m : ℕ → ℕ). IsInPlace (anchors_at b base) m (code_in b) code s) (sym moves)
+      (subst (λ (c : ℕ → Option ℕ). IsInPlace (anchors_at b base) move c code s) (sym same_bytes)
+      (in_place (runs_of b) (sites b) (chains b) h.laid base h.based q.index s q.is)))
+
+  -- what is in place stands where it is loaded
+  piece_at : (s : Site) → IsWhole (code_in b) s → IsInPlace (anchors_of f) (frame_map f) (code_in b) (plan_at b base).code s → PieceAt b x f s
+  piece_at s whole w =
+      let p : ℕ → List ℕ = λ n. piece (anchors_of f) (frame_map f) (code_in b) n s in
+      let next = frame_map f (successor s) in
+      let len : length (piece_there b f s) ≡ piece_len s = piece_sized (anchors_of f) (frame_map f) (code_in b) (frame_map f s.at) s whole in
+      let behind : f.code.lo + w.off + piece_len s ≡ frame_map f s.at + length (piece_there b f s) = omega (arith, w.entry, len) in
+      let there : f.code.lo + (w.off + piece_len s) ≡ frame_map f s.at + length (piece_there b f s) = omega (arith, w.entry, len) in
       record {
-        stands = stands_front here p (join (frame_map f) (here + length p) s) stand;
-        leads = λ on.
-            let is : join (frame_map f) (here + length p) s ≡ jump_bytes (here + length p) (frame_map f (successor s)) = ap (λ t. cond t (jump_bytes (here + length p) (frame_map f (successor s))) []) on in
-            inr (subst (StandAt x f (here + length p)) is (stands_behind here p (join (frame_map f) (here + length p) s) stand));
+        stands = subst (λ n. StandAt x f n (p n)) (sym w.entry) (code_stands w.off (p (f.code.lo + w.off)) w.stands);
+        leads = λ on. elim (w.leads on) [
+          | inl e ↦ inl (e ∙ behind)
+          | inr s2 ↦ inr (subst (λ n. StandAt x f (frame_map f s.at + length (piece_there b f s)) (jump_bytes n next)) behind
+              (subst (λ n. StandAt x f n (jump_bytes (f.code.lo + w.off + piece_len s) next)) there (code_stands (w.off + piece_len s) (jump_bytes (f.code.lo + w.off + piece_len s) next) s2)))
+        ];
       }
 
   pub pieces : (a : ℕ) (s : Site) → site_at (code_in b) a ≡ Some s → PieceAt b x f s
-  pieces a s e =
-      let q = is_site_at (code_in b) a s e in
-      let p = site_slot a s e in
-      let moves : frame_map f ≡ move = fun_ext map_is in
-      let here : frame_map f s.at ≡ first + 32 * p.k = map_is s.at ∙ (ap move q.here ∙ moved-slot a s p) in
-      let P : Anchors → (ℕ → ℕ) → ℕ → Type 0 = λ an m n. StandAt x f n (with_join m n s (piece an m (code_in b) n s)) in
-      piece_and_join s
-      (subst (λ an. P an (frame_map f) (frame_map f s.at)) anchors_are
-      (subst (λ n. P (anchors_at b base) (frame_map f) n) (sym here) (subst (λ m. P (anchors_at b base) m (first + 32 * p.k)) (sym moves) (at_slot a s q p))))
+  pieces a s e = piece_at s (is_site_at (code_in b) a s e).whole (in_frame a s e)
 
   -- ---- the table
 
@@ -288,7 +255,7 @@ module _ (b : List ℕ) (base : ℕ) (x : List ℕ) (f : Frame) (h : IsPlaced b 
   )
 
   pub table_are_bytes : AreBytes (frame_table f)
-  unfolding plan_at table_bytes
+  unfolding plan table_bytes
   table_are_bytes = subst (λ (t : List ℕ). AreBytes t) (sym h.table_is) (words_bytes (table_words (runs_of b) (pairs_at b base) (table_from b base)))
 
   pub table_holds : (k : ℕ) → k < length (frame_table f) → option_map (λ c. c.byte) (load x (f.table.lo + k)) ≡ Some (slice_index (frame_table f) k)
@@ -303,7 +270,7 @@ module _ (b : List ℕ) (base : ℕ) (x : List ℕ) (f : Frame) (h : IsPlaced b 
   pub placed : AllByRecursion (finding.IsPlaced f.form (frame_table f) f.table.lo) f.runs
   placed =
       let end : table_from b base + length (plan_at b base).table < 2 ^ 32 = omega (arith, length-table b base, up-le (table_len b), size-code, h.low) in
-      let all = looked_up (plan_at b base).table (table_from b base) 0 (table_from b base + 4096) (runs_of b) end h.made.runs.apart laws.inside_are in
+      let all = looked_up (plan_at b base).table (table_from b base) 0 (table_from b base + 4096) (runs_of b) end h.laid.runs.apart laws.inside_are in
       subst (λ n. AllByRecursion (finding.IsPlaced n (frame_table f) f.table.lo) f.runs) (sym h.form_is)
       (subst (λ rs. AllByRecursion (finding.IsPlaced 2 (frame_table f) f.table.lo) rs) (sym h.runs_are)
       (subst (λ n. AllByRecursion (finding.IsPlaced 2 (frame_table f) n) (runs_at b base)) (sym h.table_lo)

@@ -22,42 +22,30 @@ use Rattle.mv_base.specs.Words.{length-words}
 use Rattle.mv_base.specs.Table.{group_count}
 use Rattle.superset.specs.Sites.{addresses, run_addresses}
 use Rattle.map_table.specs.Pairs.{entry_in}
-use Rattle.map_table.specs.Paged.{table_size, places_from, IsMade}
+use Rattle.map_table.specs.Paged.{table_size, IsMade}
 use Rattle.map_table.specs.laws.Reading.{length-table_bytes}
 use Rattle.lookup_stub.specs.Stub.{stub, stub_size}
 use Rattle.lookup_stub.specs.laws.StubBytes.{stub_length}
 pub use Rattle.simulation_laws.specs.laws.Bounded.{word_at-lt}
+use Rattle.image_layout.specs.Fit.{is_apart}
+use Rattle.image_layout.specs.Layout.{plan}
+use Rattle.image_layout.specs.Layout as layout
+use Rattle.image_layout.specs.Parts.{parts, placed, entry}
+use Rattle.image_layout.specs.Pieces.{piece_lens, part_bytes, bytes_of, chain_code}
+use Rattle.image_layout.specs.laws.Blocks.{HasRoom, room_at, length-run_places}
+use Rattle.image_layout.specs.laws.Placing.{length-code_at}
+use Rattle.image_layout.specs.laws.Sizes.{part_sized}
+use Rattle.image_layout.specs.laws.SiteFacts.{are_whole}
+use Rattle.image_layout.specs.laws.Pairing.{firsts_pairs}
+use Rattle.image_layout.specs.laws.LayFacts.{AreLaid, HasBase, has_base, made, entry_most}
 use Rattle.mv_rewrite.specs.Sites.{code_in, sites}
-use Rattle.mv_rewrite.specs.Pieces.{slots}
-use Rattle.mv_rewrite.specs.Layout.{moved, is_apart, has_room, lowest, first_fit, base_of, size, stub_len, code_len, table_len, table_from, private_from, pairs_at, runs_at, anchors_at, code, plan_at}
-use Rattle.mv_rewrite.proofs.SiteList.{firsts_places}
-use Rattle.mv_rewrite.proofs.SlotPlaces.{length-file_slots, entry_in-le}
+use Rattle.mv_rewrite.specs.Layout.{moved, code, chains, base_of, size, stub_len, code_len, table_len, table_from, private_from, pairs_at, runs_at, anchors_at, plan_at}
 use Rattle.elf32_write.specs.Parts.{IsHeader}
-use Rattle.elf32_write.specs.Written.{IsWritable, IsWritten, written}
+use Rattle.elf32_write.specs.Written.{IsWritable, IsWritten, written, up-le}
 use Rattle.mv_rewrite.proofs.Fine.{passed, neither}
 use Rattle.mv_rewrite.proofs.NewHeaders.{Block, IsBlock, block_size, code_of_block, table_of_block, private_of_block, block_headers, AreApart, fine_output}
 
--- ---- the lowest number that passes
-
-pub lowest_passes : (test : ℕ → Bool) (n from q : ℕ) → lowest test from n ≡ Some q → (test q ≡ true) × (from ≤ q)
-unfolding lowest
-lowest_passes test zero from q e = absurd (none-some q e)
-lowest_passes test (suc n) from q e =
-    elim (cases_Bool (test from)) [
-      | inl passed ↦
-          let same : from ≡ q = same_Some from q (sym (ap (λ t. cond t (Some from) (lowest test (from + 1) n)) passed) ∙ e) in
-          (subst (λ k. test k ≡ true) same passed, omega (arith, same))
-      | inr fails ↦
-          let later = lowest_passes test n (from + 1) q (sym (ap (λ t. cond t (Some from) (lowest test (from + 1) n)) fails) ∙ e) in
-          (later.0, omega (arith, later.1))
-    ]
-
 -- ---- lengths of the plan
-
-pub length-run_places : (dir : ℕ) (rs : List Run) → length (places_from dir rs) ≡ length rs
-unfolding places_from
-length-run_places dir [] = refl
-length-run_places dir (r ∷ rs) = ap suc (length-run_places (dir + 4 * group_count (length r.bytes)) rs)
 
 module _ (b : List ℕ) (base : ℕ) where
   -- as many runs have places as there are
@@ -67,22 +55,14 @@ module _ (b : List ℕ) (base : ℕ) where
   pub length-stub : length (stub 2 (runs_at b base) (private_from b base)) ≡ stub_len b
   length-stub = stub_length 2 (runs_at b base) (private_from b base) ∙ ap (stub_size 2) length-runs_at
 
-  pub length-code : length (plan_at b base).code ≡ code_len b
-  unfolding plan_at code
-  length-code =
-      let first = base + stub_size 2 (length (runs_at b base)) in
-      let move = moved (pairs_at b base) in
-      length-append (stub 2 (runs_at b base) (private_from b base)) (slots (anchors_at b base) move (code_in b) first (sites b))
-      ∙ ap (λ n. n + length (slots (anchors_at b base) move (code_in b) first (sites b))) length-stub
-      ∙ ap (λ n. stub_len b + n) (length-file_slots (anchors_at b base) move b first)
-
   pub length-table : length (plan_at b base).table ≡ table_len b
-  unfolding plan_at
+  unfolding plan
   length-table =
-      length-table_bytes (runs_of b) (pairs_at b base) (table_from b base) ∙ ap (table_size (runs_of b)) (firsts_places (base + stub_len b) (sites b))
+      length-table_bytes (runs_of b) (pairs_at b base) (table_from b base)
+      ∙ ap (table_size (runs_of b)) (firsts_pairs (entry (piece_lens (sites b)) (base + stub_len b) (parts (chains b))) 0 (sites b))
 
   pub length-counted : length (plan_at b base).counted ≡ 0
-  unfolding plan_at
+  unfolding plan
   length-counted = refl
 
   pub length-table_of : length (table_of (plan_at b base)) ≡ table_len b
@@ -92,23 +72,12 @@ module _ (b : List ℕ) (base : ℕ) where
       ∙ (ap (λ n. table_len b + n) (length-words (plan_at b base).counted) ∙ omega (arith, length-counted)))
 
   pub size_is : size b ≡ up (code_len b) + up (table_len b) + 4096
-  unfolding size
+  unfolding layout.size
   size_is = refl
 
   pub plan_runs : (plan_at b base).runs ≡ runs_at b base
-  unfolding plan_at
+  unfolding plan
   plan_runs = refl
-
-abbrev pub run_len : Run → ℕ
-run_len r = length r.bytes
-
-pub length-addresses : (rs : List Run) → length (addresses rs) ≡ sum_by run_len rs
-unfolding addresses
-length-addresses [] = refl
-length-addresses (r ∷ rs) =
-    let len : length (range_with_len r.lo (length r.bytes)) ≡ run_len r = length-range_with_len r.lo (length r.bytes) in
-    let more : sum_by run_len (r ∷ rs) ≡ run_len r + sum_by run_len rs = sum_by-cons run_len r rs in
-    omega (arith, len, more, length-addresses rs, length-append (run_addresses r) (addresses rs))
 
 -- ---- what is asked of an image
 
@@ -120,31 +89,21 @@ pub record IsInput (b : List ℕ) (base : ℕ) : Type 0 where
   pub few_headers : header_count b ≤ 61
   pub base_is : base_of b ≡ Some base
   pub code : (a : ℕ) → code_in b a ≡ code_of (runs_of b) a
-  pub made : IsMade (record { runs = runs_of b; pairs = pairs_at b base; lo = table_from b base })
-
--- the block's page and room, and each segment apart from it
-pub record HasRoom (ss : List Segment) (size base : ℕ) : Type 0 where
-  pub page : ℕ
-  pub at : base ≡ 4096 * page
-  pub from : 0x100 ≤ page
-  pub low : base + size ≤ 0xB0000000
-  pub apart : list_all (is_apart page (page + size / 4096)) ss ≡ true
-
-abbrev page_base : ℕ → ℕ
-page_base page = 4096 * page
-
-base_by : (o : Option ℕ) (base : ℕ) → option_map page_base o ≡ Some base → (page : ℕ) × (o ≡ Some page) × (base ≡ 4096 * page)
-base_by None base e = absurd (none-some base e)
-base_by (Some page) base e = (page, refl, sym (same_Some (page_base page) base e))
+  pub laid : AreLaid (runs_of b) (sites b) (chains b)
 
 pub has_room_at : (b : List ℕ) (base : ℕ) → base_of b ≡ Some base → HasRoom (segments b) (size b) base
-unfolding base_of first_fit has_room
-has_room_at b base e =
-    let test = has_room (segments b) (size b) in
-    let p = base_by (lowest test 0x100 0xAFF00) base e in
-    let found = lowest_passes test 0xAFF00 0x100 p.0 p.1 in
-    let room = and_parts (leb (4096 * p.0 + size b) 0xB0000000) (list_all (is_apart p.0 (p.0 + size b / 4096)) (segments b)) found.0 in
-    record { page = p.0; at = p.2; from = found.1; low = omega (arith, p.2, leb-true (4096 * p.0 + size b) 0xB0000000 room.0); apart = room.1 }
+unfolding base_of
+has_room_at b base e = room_at (segments b) (size b) base e
+
+-- the code has its length, since each piece has that of its site
+pub length-code : (b : List ℕ) (base : ℕ) → AreLaid (runs_of b) (sites b) (chains b) → length (plan_at b base).code ≡ code_len b
+unfolding plan layout.code chain_code
+length-code b base is =
+    let first = base + stub_size 2 (length (runs_at b base)) in
+    let bytes = part_bytes (anchors_at b base) (moved (pairs_at b base)) (code_of (runs_of b)) (sites b) in
+    let sized = part_sized (anchors_at b base) (moved (pairs_at b base)) (code_of (runs_of b)) (sites b) (are_whole (runs_of b) (sites b) is.sites) in
+    let behind = bytes_of bytes (placed (piece_lens (sites b)) first (parts (chains b))) in
+    omega (arith, length-append (stub 2 (runs_at b base) (private_from b base)) behind, length-stub b base, length-code_at (piece_lens (sites b)) bytes sized (parts (chains b)) first)
 
 header_fits : (b : List ℕ) (p : ℕ) → AreBytes b → IsHeader (header_at b p)
 unfolding header_at
@@ -237,6 +196,14 @@ module _ (b : List ℕ) (base : ℕ) (is : IsInput b base) where
   pub room : HasRoom (segments b) (size b) base
   room = has_room_at b base is.base_is
 
+  -- and the parts of the block end below 2^32
+  pub has : HasBase (runs_of b) (sites b) (chains b) is.laid base
+  unfolding base_of
+  has = has_base (runs_of b) (sites b) (chains b) is.laid (segments b) base is.base_is
+
+  pub made_at : IsMade (record { runs = runs_of b; pairs = pairs_at b base; lo = table_from b base })
+  made_at = made (runs_of b) (sites b) (chains b) is.laid base has
+
   -- the block of the plan
   abbrev pub block : Block
   block = record { page = room.page; base = base; code = code_len b; table = table_len b; private = 64; place = code_place (length b) }
@@ -245,18 +212,16 @@ module _ (b : List ℕ) (base : ℕ) (is : IsInput b base) where
   based = (room.at, room.from, room.low)
 
   pub headers_are : new_headers b (plan_at b base) ≡ with_added base (block_headers block) (headers b)
-  unfolding plan_at
+  unfolding plan
   headers_are =
       ap (λ l. with_added base l (headers b))
-      (ap (λ c. added_by (code_place (length b)) base c (length (table_of (plan_at b base)))) (length-code b base) ∙ ap (λ t. added_by (code_place (length b)) base (code_len b) t) (length-table_of b base))
+      (ap (λ c. added_by (code_place (length b)) base c (length (table_of (plan_at b base)))) (length-code b base is.laid) ∙ ap (λ t. added_by (code_place (length b)) base (code_len b) t) (length-table_of b base))
 
   pub entry_bound : (a : ℕ) → entry_in (pairs_at b base) a < 2 ^ 32
-  entry_bound a =
-      let first : base + stub_len b + 32 * length (sites b) ≤ base + up (code_len b) = omega arith in
-      omega (arith, entry_in-le (sites b) (base + stub_len b) a, first, room.low, size_is b base)
+  entry_bound a = omega (arith, entry_most (runs_of b) (sites b) (chains b) is.laid base a, room.low, size_is b base, up-le (code_len b))
 
   entry_lt : (plan_at b base).entry < 2 ^ 32
-  unfolding plan_at
+  unfolding plan
   entry_lt =
       cond_both (eqb (entry_in (pairs_at b base) (entry_at b)) 0) (entry_at b) (entry_in (pairs_at b base) (entry_at b)) (λ n. n < 2 ^ 32) (λ _. word_at-lt b 24 is.bytes) (λ _. entry_bound (entry_at b))
 
@@ -293,7 +258,7 @@ module _ (b : List ℕ) (base : ℕ) (is : IsInput b base) where
     headers_fit = subst (AllByRecursion IsHeader) (sym headers_are) new_fit;
     some_header = omega (arith, length-new);
     few_headers = omega (arith, length-new, is.few_headers);
-    few_runs = omega (arith, is.made.runs.few, ap (λ (l : List RunPlace). length l) (plan_runs b base), length-runs_at b base);
+    few_runs = omega (arith, is.laid.runs.few, ap (λ (l : List RunPlace). length l) (plan_runs b base), length-runs_at b base);
   }
 
   pub wrote : IsWritten b (plan_at b base) (file_of b (plan_at b base))
@@ -301,7 +266,7 @@ module _ (b : List ℕ) (base : ℕ) (is : IsInput b base) where
 
   pub length-output : length (file_of b (plan_at b base)) ≡ code_place (length b) + up (code_len b) + up (table_len b)
   length-output =
-      wrote.length_is ∙ (ap (λ c. code_place (length b) + up c + up (length (table_of (plan_at b base)))) (length-code b base) ∙ ap (λ t. code_place (length b) + up (code_len b) + up t) (length-table_of b base))
+      wrote.length_is ∙ (ap (λ c. code_place (length b) + up c + up (length (table_of (plan_at b base)))) (length-code b base is.laid) ∙ ap (λ t. code_place (length b) + up (code_len b) + up t) (length-table_of b base))
 
   pub is_block : IsBlock (length (file_of b (plan_at b base))) block
   is_block = record {

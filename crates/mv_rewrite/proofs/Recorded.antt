@@ -17,8 +17,12 @@ use Rattle.elf32_write.specs.Plans.{frame_of, plan_table, KeepsRules, ReadsBack}
 use Rattle.elf32_write.specs.ReadBack.{reads_back}
 use Rattle.map_table.specs.Paged.{places_from, IsPaged}
 use Rattle.map_table.specs.laws.Reading.{Laws, made_laws}
-use Rattle.mv_rewrite.specs.Layout.{code_len, table_len, table_from, private_from, pairs_at, runs_at, plan_at}
-use Rattle.mv_rewrite.proofs.Planned.{length-code, length-table, length-table_of, size_is, run_len, IsInput, room, writable}
+use Rattle.image_layout.specs.Layout.{plan}
+use Rattle.image_layout.specs.laws.SiteFacts.{run_len}
+use Rattle.image_layout.specs.laws.LayFacts.{AreLaid}
+use Rattle.mv_rewrite.specs.Sites.{sites}
+use Rattle.mv_rewrite.specs.Layout.{chains, code_len, table_len, table_from, private_from, pairs_at, runs_at, plan_at}
+use Rattle.mv_rewrite.proofs.Planned.{length-code, length-table, length-table_of, size_is, IsInput, room, made_at, writable}
 
 -- ---- the frame that the record spells
 
@@ -94,10 +98,10 @@ frame_by b base c t u = record {
   file = file_of b (plan_at b base);
 }
 
-same_frame : (b : List ℕ) (base : ℕ) → frame_of b (plan_at b base) ≡ frame_is b base
-unfolding frame_of plan_at
-same_frame b base =
-    ap (λ c. frame_by b base c (length (table_of (plan_at b base))) (length (plan_at b base).table)) (length-code b base)
+same_frame : (b : List ℕ) (base : ℕ) → AreLaid (runs_of b) (sites b) (chains b) → frame_of b (plan_at b base) ≡ frame_is b base
+unfolding frame_of plan
+same_frame b base laid =
+    ap (λ c. frame_by b base c (length (table_of (plan_at b base))) (length (plan_at b base).table)) (length-code b base laid)
     ∙ (ap (λ t. frame_by b base (code_len b) t (length (plan_at b base).table)) (length-table_of b base)
     ∙ ap (λ u. frame_by b base (code_len b) (table_len b) u) (length-table b base))
 
@@ -106,19 +110,19 @@ module _ (b : List ℕ) (base : ℕ) (is : IsInput b base) where
   p = plan_at b base
 
   lengths : (up (length p.code) ≡ up (code_len b)) × (length (table_of p) ≡ table_len b) × (length p.table ≡ table_len b)
-  lengths = (ap up (length-code b base), length-table_of b base, length-table b base)
+  lengths = (ap up (length-code b base is.laid), length-table_of b base, length-table b base)
 
   -- what the table reads as
   laws : Laws (record { runs = runs_of b; pairs = pairs_at b base; lo = table_from b base }) (plan_at b base).table
-  unfolding plan_at
-  laws = made_laws (record { runs = runs_of b; pairs = pairs_at b base; lo = table_from b base }) is.made
+  unfolding plan
+  laws = made_laws (record { runs = runs_of b; pairs = pairs_at b base; lo = table_from b base }) (made_at b base is)
 
   pub whole_table : table_of (plan_at b base) ≡ (plan_at b base).table
-  unfolding plan_at words
+  unfolding plan words
   whole_table = append-nil (plan_at b base).table
 
   low_there : table_from b base ≡ (plan_table (plan_at b base)).lo
-  unfolding plan_at
+  unfolding plan
   low_there = ap (λ n. base + n) (sym lengths.0)
 
   paged : AllByRecursion (IsPaged (plan_table (plan_at b base)).bytes (plan_table (plan_at b base)).lo) (runs_at b base)
@@ -127,18 +131,18 @@ module _ (b : List ℕ) (base : ℕ) (is : IsInput b base) where
       (subst (λ (t : List ℕ). AllByRecursion (IsPaged t (table_from b base)) (runs_at b base)) (sym whole_table) laws.inside_are)
 
   keeps : KeepsRules (plan_at b base)
-  unfolding plan_at
+  unfolding plan
   keeps =
       let t : TableAt = plan_table (plan_at b base) in
       let end : t.lo + length t.bytes ≤ t.list = omega (arith, lengths.0, lengths.1, lengths.2) in
       record {
         at = omega (arith, (room b base is).at);
-        size = le-leb (sum_by place_len (runs_at b base)) 4194304 (omega (arith, places_sum (table_from b base + 4096) (runs_of b), is.made.runs.small));
-        runs = runs_keep t 0 (table_from b base + 4096) (runs_of b) refl is.made.runs.apart end paged;
+        size = le-leb (sum_by place_len (runs_at b base)) 4194304 (omega (arith, places_sum (table_from b base + 4096) (runs_of b), is.laid.runs.small));
+        runs = runs_keep t 0 (table_from b base + 4096) (runs_of b) refl is.laid.runs.apart end paged;
       }
 
   ends : EndsLow (plan_at b base)
-  unfolding plan_at
+  unfolding plan
   ends = omega (arith, (room b base is).low, size_is b base, lengths.0, lengths.1)
 
   read : ReadsBack b (plan_at b base) (file_of b (plan_at b base))
@@ -147,7 +151,7 @@ module _ (b : List ℕ) (base : ℕ) (is : IsInput b base) where
       reads_back b (plan_at b base) (record { ident = can.ident; few_headers = can.few_headers; few_runs = can.few_runs }) is.small ends keeps
 
   pub framed : frame (file_of b (plan_at b base)) ≡ Some (frame_is b base)
-  framed = read.frame_is ∙ ap Some (same_frame b base)
+  framed = read.frame_is ∙ ap Some (same_frame b base is.laid)
 
   pub table_there : frame_table (frame_is b base) ≡ (plan_at b base).table
-  table_there = ap frame_table (sym (same_frame b base)) ∙ (read.table_is ∙ whole_table)
+  table_there = ap frame_table (sym (same_frame b base is.laid)) ∙ (read.table_is ∙ whole_table)

@@ -13,13 +13,14 @@ use Rattle.elf32_write.specs.Parts.{Stands}
 use Rattle.elf32_write.specs.Frame.{frame_code, is_added, is_private}
 use Rattle.elf32_write.specs.ReadBack.{taken}
 use Rattle.elf32_write.specs.Within.{within_parts}
+use Rattle.image_layout.specs.Layout.{plan}
 use Rattle.mv_rewrite.specs.Layout.{code_len, table_len, table_from, plan_at}
 use Rattle.simulation_laws.specs.Relocated.{IsOutput, IsRelocated, without_exec}
 use Rattle.mv_rewrite.proofs.PlacedPlan.{IsPlaced, map_is, others, mapped, pieces, stub_stands, table_added, table_are_bytes, table_holds, table_low, placed}
 use Rattle.mv_rewrite.proofs.Fine.{IsFine}
 use Rattle.mv_rewrite.proofs.NewHeaders.{Block, IsBlock, code_of_block, table_of_block, private_of_block, block_headers, AreApart, fine_parts}
 use Rattle.mv_rewrite.proofs.NewCells.{not_within, within_is, inner_cell, three, header_cell, cells_of, loads, cell_inside, cell_outside, cell_unloaded, within_not, kept_cells, InBlock, OutOfBlock, output_out, output_in, code_cell, block_fixed, private_cell}
-use Rattle.mv_rewrite.proofs.Planned.{length-code, length-table, size_is, IsInput, room, block, headers_none, wrote, is_block, headers_apart, output_headers, admitted}
+use Rattle.mv_rewrite.proofs.Planned.{length-code, length-table, size_is, IsInput, room, has, block, headers_none, wrote, is_block, headers_apart, output_headers, admitted}
 use Rattle.mv_rewrite.proofs.Recorded.{frame_is, framed, whole_table, table_there}
 
 -- ---- the input's cells
@@ -136,7 +137,7 @@ module _ (b : List ℕ) (base : ℕ) (is : IsInput b base) where
   table_stands : Stands x (code_place (length b) + up (code_len b)) (plan_at b base).table
   table_stands =
       subst (λ (t : List ℕ). Stands x (code_place (length b) + up (code_len b)) t) (whole_table b base is)
-      (subst (λ n. Stands x (code_place (length b) + up n) (table_of (plan_at b base))) (length-code b base) (wrote b base is).table_stands)
+      (subst (λ n. Stands x (code_place (length b) + up n) (table_of (plan_at b base))) (length-code b base is.laid) (wrote b base is).table_stands)
 
   pub table_words : (k : ℕ) → k < length (plan_at b base).table → load x (table_from b base + k) ≡ Some (record { byte = slice_index (plan_at b base).table k; write = false; exec = false })
   table_words k lt =
@@ -156,26 +157,27 @@ module _ (b : List ℕ) (base : ℕ) (is : IsInput b base) where
     added_lo = refl;
     added_len = sym (size_is b base);
     cells = λ k lt.
-        let len = length-code b base in
+        let len = length-code b base is.laid in
         added (base + k) (record { from = omega arith; below = omega (arith, lt, len) })
         ∙ code_cell x (plan_at b base).code (block b base is) k len (wrote b base is).code_stands lt;
     words = table_words;
     positive = omega (arith, (room b base is).at, (room b base is).from);
     low = (room b base is).low;
     code = is.code;
-    made = is.made;
+    laid = is.laid;
+    based = has b base is;
   }
 
   -- the code may be executed where the frame says
   code_runs : (k : ℕ) → k < length (frame_code (frame_is b base)) → exec_byte (load x) ((frame_is b base).code.lo + k) ≡ Some (slice_index (frame_code (frame_is b base)) k)
   code_runs k lt =
       let code = (plan_at b base).code in
-      let is_code : frame_code (frame_is b base) ≡ code = taken x code (code_place (length b)) (code_len b) (length-code b base) (wrote b base is).code_stands in
+      let is_code : frame_code (frame_is b base) ≡ code = taken x code (code_place (length b)) (code_len b) (length-code b base is.laid) (wrote b base is).code_stands in
       let below : k < length code = omega (arith, lt, ap length is_code) in
       ap exec_byte_of (is_placed.cells k below) ∙ ap (λ (l : List ℕ). Some (slice_index l k)) (sym is_code)
 
   pub output_is : IsOutput b x (frame_is b base)
-  unfolding plan_at
+  unfolding plan
   output_is = record {
     admitted = admitted b base is;
     framed = framed b base is;
@@ -199,7 +201,7 @@ module _ (b : List ℕ) (base : ℕ) (is : IsInput b base) where
   }
 
   pub relocated : IsRelocated b x (frame_is b base)
-  unfolding plan_at
+  unfolding plan
   relocated = record {
     output = output_is;
     entry = (wrote b base is).entry_is ∙ sym (map_is b base x (frame_is b base) is_placed (entry_at b));

@@ -1,8 +1,8 @@
 -- What rewriting a file gives. This project's own.
 use Rattle.std.specs.Prelude.{◌≡◌, ℕ, List, length, Some, None, Result, Ok, Err}
 use Rattle.elf32_read.specs.Faults.{refusal}
-use Rattle.mv_rewrite.specs.declared.layout.LayFault.{LayFault}
-use Rattle.mv_rewrite.specs.declared.layout.LayFault.TheVariants as lay_fault
+use Rattle.image_layout.specs.declared.layout.LayFault.{LayFault}
+use Rattle.image_layout.specs.declared.layout.LayFault.TheVariants as lay_fault
 use Rattle.mv_rewrite.specs.declared.rewriting.Rewritten.{Rewritten}
 use Rattle.mv_rewrite.specs.declared.rewriting.RewriteFault.{RewriteFault}
 use Rattle.mv_rewrite.specs.declared.rewriting.RewriteFault.TheVariants.{Image, NoRoom, NoMemory}

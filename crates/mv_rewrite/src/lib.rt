@@ -1,12 +1,11 @@
 //! Rewriting: from a static executable to one whose code is relocated.
 //!
-//! `rewriting` has the whole. What stands beside it as private modules (slots, the layout) moves into crates of its own as the project grows.
+//! `rewriting` has the whole: the image, its runs, sites and chains, the plan that `image_layout` makes of them, and the file.
+//! What that file is, and that it simulates its input, is proved here from what stands where in it; the laws of runs are
+//! those of `simulation_laws`.
 #![tactic(auto)]
 
-mod layout;
 pub mod rewriting;
-mod room;
-mod slots;
 
 pub use rewriting::{FILE_LIMIT, RewriteFault, Rewritten, rewrite};
 

@@ -1,19 +1,19 @@
 //! Rewriting a whole file.
 
 ghost use Rattle.std.specs.Prelude.{◌≡◌, ◌≤◌, length, None, IfOk};
-ghost use Rattle.elf32_read.specs.Faults.{limit_fault};
+ghost use Rattle.elf32_read.specs.Faults.{limit_fault, load_refusal};
 ghost use Rattle.elf32_read.specs.Reading.{IsImage};
 ghost use Rattle.elf32_write.specs.Frame.{Frame};
-ghost use Rattle.mv_rewrite.specs.Laying.{IsLaid};
-ghost use Rattle.mv_rewrite.specs.Layout.{size};
+ghost use Rattle.mv_rewrite.specs.Layout.{size, IsPlanned};
 ghost use Rattle.mv_rewrite.specs.OutputFile.{IsWrittenFor};
 ghost use Rattle.mv_rewrite.specs.Rewriting.{IsRewritten};
 ghost use Rattle.simulation_laws.specs.Stopping.{Simulates};
 
-use crate::layout::{LayFault, lay};
 use elf32_read::{Image, ImageFault, ReadImage, admit, read_image, runs};
 use elf32_write::{Plan, added_len, write_image};
+use image_layout::{LayFault, lay};
 use mv_base::{Bytes, NoMemory, Range};
+use sequence_join::chains;
 use std::alloc::Global;
 use superset::sites;
 use thiserror::Error;
@@ -111,7 +111,8 @@ fn rewrite_admitted(alloc: Global, image: &Image, bytes: &[u8]) -> Result<Rewrit
 {
     let runs = runs(alloc, image, bytes)?;
     let sites = sites(alloc, &runs)?;
-    let plan = lay(alloc, image, bytes, &runs, &sites)?;
+    let chains = chains(alloc, &sites)?;
+    let plan = lay(alloc, image, &runs, &sites, &chains)?;
     let file = write_image(alloc, image, bytes, &plan)?;
     Ok(Rewritten {
         bytes: Bytes::new(file),
@@ -123,7 +124,9 @@ fn rewrite_admitted(alloc: Global, image: &Image, bytes: &[u8]) -> Result<Rewrit
 
 /// The addresses that the plan of a file adds.
 fn added(_bytes: &[u8], plan: &Plan) -> Range
-    requires { IsLaid _bytes.now plan.now }
+    requires whole { load_refusal _bytes.now ≡ None }
+    requires admitted { limit_fault _bytes.now ≡ None }
+    requires planned { IsPlanned _bytes.now plan.now }
     ensures { result ≡ record { lo = plan.now.base; len = size _bytes.now } }
 {
     Range::new(plan.base, added_len(plan))

@@ -1,5 +1,5 @@
-//! Files that are rewritten: how many sites they have, what stands for some, and where the added block lies, or that no
-//! place has room.
+//! Files that are rewritten: how many sites they have, the code that stands for them, and where the added block lies, or
+//! that no place has room.
 
 ghost use Rattle.std.specs.Prelude.{◌≤◌, length};
 
@@ -80,20 +80,10 @@ fn with_code<const K: usize>(code: [u8; K]) -> [u8; 128]
     edited(file, [(68, K as u8), (72, K as u8)])
 }
 
-#[test]
-fn gives_each_site_a_slot(rt: HostRuntime) {
-    // `nop`, `ret`, `hlt`; an address that is no site goes to itself.
-    let file = with_code([0x90, 0xC3, 0xF4]);
-    assert_eq!(rt; counts(rt.alloc(), &file), Some((3, 1)));
-    assert_eq!(rt; mapped(rt.alloc(), &file, 0x0804_8074), Some(0x0010_005B));
-    assert_eq!(rt; mapped(rt.alloc(), &file, 0x0804_8075), Some(0x0010_007B));
-    assert_eq!(rt; mapped(rt.alloc(), &file, 0x0804_8076), Some(0x0010_009B));
-    assert_eq!(rt; mapped(rt.alloc(), &file, 0x0804_8077), Some(0x0804_8077));
-}
-
-/// Whether the first slot of a file with one run begins with these bytes.
-fn begins_with(alloc: Global, file: &[u8], bytes: &[u8]) -> bool
-    requires { length file.now ≤ FILE_LIMIT }
+/// Whether the code of a file with one run has these bytes at a place behind the stub.
+fn has_code(alloc: Global, file: &[u8], place: usize, bytes: &[u8]) -> bool
+    requires within { length file.now ≤ FILE_LIMIT }
+    requires low { place ≤ 1000 }
 {
     let Ok(output) = rewritten(alloc, file) else {
         return false;
@@ -102,7 +92,114 @@ fn begins_with(alloc: Global, file: &[u8], bytes: &[u8]) -> bool
         return false;
     };
     let code = frame.code_bytes();
-    code.len() >= STUB_LEN && code[STUB_LEN..].starts_with(bytes)
+    let from = STUB_LEN + place;
+    code.len() >= from && code[from..].starts_with(bytes)
+}
+
+#[test]
+fn maps_sites_into_chains(rt: HostRuntime) {
+    // `nop` and `ret` in one chain, 1 and 11 bytes, then `hlt`; an address that is no site goes to itself.
+    let file = with_code([0x90, 0xC3, 0xF4]);
+    assert_eq!(rt; counts(rt.alloc(), &file), Some((3, 1)));
+    assert_eq!(rt; mapped(rt.alloc(), &file, 0x0804_8074), Some(0x0010_005B));
+    assert_eq!(rt; mapped(rt.alloc(), &file, 0x0804_8075), Some(0x0010_005C));
+    assert_eq!(rt; mapped(rt.alloc(), &file, 0x0804_8076), Some(0x0010_0067));
+    assert_eq!(rt; mapped(rt.alloc(), &file, 0x0804_8077), Some(0x0804_8077));
+}
+
+/// A file with one header: its code at 0x08048054.
+const ONE: [u8; 96] = [
+    0x7F, 0x45, 0x4C, 0x46, 1, 1, 1, 0, 0, 0, 0, 0, 0, 0, 0, 0, //
+    2, 0, 3, 0, 1, 0, 0, 0, 0x54, 0x80, 0x04, 0x08, 52, 0, 0, 0, //
+    0, 0, 0, 0, 0, 0, 0, 0, 52, 0, 32, 0, 1, 0, 0, 0, //
+    0, 0, 0, 0, 1, 0, 0, 0, 84, 0, 0, 0, 0x54, 0x80, 0x04, 0x08, //
+    0x54, 0x80, 0x04, 0x08, 12, 0, 0, 0, 12, 0, 0, 0, 5, 0, 0, 0, //
+    0, 0x10, 0, 0, 0xB8, 1, 0, 0, 0, 0xBB, 7, 0, 0, 0, 0xCD, 0x80,
+];
+
+#[test]
+fn writes_five_chains_of_an_exit(rt: HostRuntime) {
+    // `mov eax,1`, `mov ebx,7`, `int 0x80`, and what else can be read from each byte of them.
+    let chains = [
+        0xB8, 1, 0, 0, 0, 0xBB, 7, 0, 0, 0, 0xCD, 0x80, 0xE9, 0xF4, 0x7F, 0xF4, 0x07, //
+        1, 0, 0, 0, 0xE9, 0xEB, 0xFF, 0xFF, 0xFF, //
+        0, 0, 0, 0xBB, 7, 0, 0, 0, 0xE9, 0xE3, 0xFF, 0xFF, 0xFF, //
+        0, 0, 0, 0xCD, 0xE9, 0xD4, 0x7F, 0xF4, 0x07, //
+        0, 0, 0xE9, 0xD3, 0xFF, 0xFF, 0xFF,
+    ];
+    assert_eq!(rt; counts(rt.alloc(), &ONE), Some((10, 1)));
+    assert!(rt; has_code(rt.alloc(), &ONE, 0, &chains));
+    let entries = [
+        (0x0804_8054, 0x0010_005B),
+        (0x0804_8055, 0x0010_006C),
+        (0x0804_8057, 0x0010_006E),
+        (0x0804_8059, 0x0010_0060),
+        (0x0804_805A, 0x0804_805A),
+        (0x0804_805C, 0x0010_008B),
+        (0x0804_805E, 0x0010_0065),
+        (0x0804_805F, 0x0804_805F),
+    ];
+    for (address, entry) in entries {
+        assert_eq!(rt; mapped(rt.alloc(), &ONE, address), Some(entry));
+    }
+}
+
+/// Whether a file is rewritten, and no front of its output has a frame.
+fn has_frame_whole_alone(alloc: Global, file: &[u8]) -> bool
+    requires { length file.now ≤ FILE_LIMIT }
+{
+    let Ok(output) = rewritten(alloc, file) else {
+        return false;
+    };
+    let bytes = output.bytes.as_slice();
+    for len in 0..bytes.len() {
+        if read_frame(&bytes[..len]).is_some() {
+            return false;
+        }
+    }
+    read_frame(bytes).is_some()
+}
+
+#[test]
+fn no_front_of_an_output_has_a_frame(rt: HostRuntime) {
+    assert!(rt; has_frame_whole_alone(rt.alloc(), &ONE));
+}
+
+#[test]
+fn ends_a_chain_with_a_join(rt: HostRuntime) {
+    // A jump to its own second byte, which is `inc eax`: two chains, and a join behind the second.
+    let jump = [(68, 3), (72, 3), (84, 0xEB), (85, 0xFF), (86, 0xC0)];
+    let file = edited(ONE, jump);
+    let chains = [0xE9, 0, 0, 0, 0, 0xFF, 0xC0, 0xE9, 0xF0, 0x7F, 0xF4, 0x07];
+    assert!(rt; has_code(rt.alloc(), &file, 0, &chains));
+}
+
+#[test]
+fn joins_what_stands_in_an_earlier_chain(rt: HostRuntime) {
+    // The whole file is mapped; `hlt` stands in the chain that begins at the ELF header, so a join follows the `mov`.
+    let whole = [
+        (56, 0),
+        (60, 0),
+        (64, 0),
+        (68, 0x5A),
+        (72, 0x5A),
+        (84, 0xA1),
+        (85, 0x18),
+        (86, 0x80),
+        (87, 0x04),
+        (88, 0x08),
+        (89, 0xF4),
+    ];
+    let file = edited(ONE, whole);
+    let entry = mapped(rt.alloc(), &file, 0x0804_8054).unwrap_or(0);
+    let behind = mapped(rt.alloc(), &file, 0x0804_8059).unwrap_or(0);
+    let reach = behind.wrapping_sub(entry.wrapping_add(10)).to_le_bytes();
+    let joined = [
+        0xA1, 0x18, 0x80, 0x04, 0x08, 0xE9, reach[0], reach[1], reach[2], reach[3],
+    ];
+    let place = entry.wrapping_sub(0x0010_005B) as usize;
+    assert!(rt; behind < entry);
+    assert!(rt; place <= 1000 && has_code(rt.alloc(), &file, place, &joined));
 }
 
 #[test]
@@ -114,15 +211,15 @@ fn sends_a_jump_through_the_stub(rt: HostRuntime) {
     ];
     let file = with_code([0xFF, 0xE4]);
     assert_eq!(rt; counts(rt.alloc(), &file), Some((1, 1)));
-    assert!(rt; begins_with(rt.alloc(), &file, &piece));
+    assert!(rt; has_code(rt.alloc(), &file, 0, &piece));
 }
 
 #[test]
 fn pushes_the_old_address_of_a_call(rt: HostRuntime) {
-    // `call` of the address behind it, which is `nop`: push 0x08048079; jmp to the slot of the `nop`.
+    // `call` of the address behind it, which is `nop`: push 0x08048079; jmp to the `nop`.
     let file = with_code([0xE8, 0, 0, 0, 0, 0x90]);
     let piece = [0x68, 0x79, 0x80, 0x04, 0x08, 0xE9];
-    assert!(rt; begins_with(rt.alloc(), &file, &piece));
+    assert!(rt; has_code(rt.alloc(), &file, 0, &piece));
 }
 
 #[test]

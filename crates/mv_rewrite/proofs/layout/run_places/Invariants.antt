@@ -1,6 +1,0 @@
-use Rattle.std.proofs.Common.{◌≡◌, take}
-use Rattle.map_table.specs.Paged.{places}
-use Rattle.mv_rewrite.proofs.layout.run_places.Given as goal
-
-abbrev pub invariant-loop-index : goal.invariant-loop-index
-invariant-loop-index l = l.places.items ≡ take l.index (places l.runs l._lo)
