@@ -4,6 +4,7 @@ use Rattle.std.specs.List.{All, AllByRecursion, AllByRecursion-prop}
 use Rattle.std.proofs.Common.{arith}
 use Rattle.std.proofs.Props.{props}
 use Rattle.std.specs.Coded.{×_prop, Unit-prop, le_prop}
+use Rattle.mv_base.specs.Bytes.{AreBytes}
 use Rattle.mv_base.specs.Effects.{IsEffect, IsAnswer, Effect, Answer}
 use Rattle.mv_base.specs.Effects as cells
 use Rattle.syscall_log.specs.declared.effect.Effect.{Effect as Change}
@@ -14,11 +15,15 @@ use Rattle.syscall_log.specs.Meaning.{effect_of, answer_of}
 abbrev pub HasNoZero : List ℕ → Type 0
 HasNoZero arg = (k : ℕ) → k < length arg → slice_index arg k ≢ 0
 
+-- an argument is bytes, none of which is zero
+unfoldable pub IsArgument : List ℕ → Type 0
+IsArgument arg = HasNoZero arg × AreBytes arg
+
 -- at most 1,024 arguments, of at most 65,536 bytes together with one ending zero each
 pub record AreArguments (args : List (List ℕ)) : Type 0 where
   pub few : length args ≤ 1024
   pub short : sum_by (λ a. length a + 1) args ≤ 65536
-  pub no_zero : All HasNoZero args
+  pub each : All IsArgument args
 
 -- what may follow an answer: nothing follows the end of the program
 abbrev pub MayFollow : Answer → List Reply → Type 0
@@ -67,8 +72,12 @@ AreAnswers-prop : (answers : List Reply) → IsProp (AreAnswers answers)
 AreAnswers-prop [] = Unit-prop
 AreAnswers-prop (a ∷ rest) = hlevel (props, IsAnswer-prop (answer_of a), MayFollow-prop (answer_of a) rest, AreAnswers-prop rest)
 
+IsArgument-prop : (arg : List ℕ) → IsProp (IsArgument arg)
+unfolding IsArgument
+IsArgument-prop arg = hlevel props
+
 AreArguments-prop : (args : List (List ℕ)) → IsProp (AreArguments args)
-AreArguments-prop args = hlevel props
+AreArguments-prop args = hlevel (props, IsArgument-prop)
 
 -- two proofs that a log keeps its bounds are equal
 pub IsLog-prop : (args : List (List ℕ)) (answers : List Reply) → IsProp (IsLog args answers)

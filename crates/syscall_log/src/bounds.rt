@@ -2,15 +2,15 @@
 
 ghost use Rattle.std.specs.Prelude.{◌≡◌, ◌+◌, ◌≤◌, ◌↔◌, IsTrue, length, sum_by};
 ghost use Rattle.std.specs.List.{All};
-ghost use Rattle.syscall_log.specs.Rules.{AreArguments, AreAnswers, HasNoZero};
+ghost use Rattle.syscall_log.specs.Rules.{AreArguments, AreAnswers, IsArgument};
 
 use crate::answer::Answer;
 use mv_base::Bytes;
 
 /// The most arguments, and the most bytes that they have together with one ending zero each.
-const MOST_ARGUMENTS: usize = 1_024;
+pub(crate) const MOST_ARGUMENTS: usize = 1_024;
 
-const MOST_BYTES: usize = 65_536;
+pub(crate) const MOST_BYTES: usize = 65_536;
 
 /// Whether arguments keep the bounds of a log.
 pub(crate) fn are_arguments(args: &[Bytes]) -> bool
@@ -35,14 +35,15 @@ fn are_short(args: &[Bytes]) -> bool
 
 /// Whether no argument has a zero byte.
 fn none_has_zero(args: &[Bytes]) -> bool
-    ensures { IsTrue result ↔ All HasNoZero args.now }
+    ensures { IsTrue result ↔ All IsArgument args.now }
 {
     args.iter().all(has_no_zero)
 }
 
 /// Whether no byte of an argument is zero.
-fn has_no_zero(arg: &Bytes) -> bool
-    ensures { IsTrue result ↔ HasNoZero arg.now }
+#[tactic(auto, unfolding(crate::specs::Rules::IsArgument))]
+pub(crate) fn has_no_zero(arg: &Bytes) -> bool
+    ensures { IsTrue result ↔ IsArgument arg.now }
 {
     arg.as_slice().iter().all(|byte| *byte != 0)
 }

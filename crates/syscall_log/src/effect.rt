@@ -61,7 +61,8 @@ const LIMIT: u64 = 0xFFFF_F000;
 
 /// Whether `len` addresses from `lo` on are a range, and have room for the bytes.
 fn in_bounds(lo: u32, len: u64, bytes: &Bytes) -> bool
-    ensures range { IsTrue result ↔ ((0 < len) × (lo + len ≤ 0xFFFFF000) × (length bytes.now ≤ len)) }
+    ensures range { IsTrue result
+        ↔ ((0 < len) × (lo + len ≤ 0xFFFFF000) × (length bytes.now ≤ len)) }
     ensures bytes { AreBytes bytes.now }
 {
     let bytes = bytes.as_slice();

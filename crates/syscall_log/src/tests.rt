@@ -1,9 +1,12 @@
-//! Logs at their bounds, and just past them.
+//! Logs at their bounds and just past them, and their texts.
 
 use crate::answer::{Answer, AnswerList};
 use crate::args::Args;
 use crate::effect::{Effect, Effects, Mode};
+use crate::fault::LogFault;
 use crate::log::Log;
+use crate::read::read_log;
+use crate::write::write_log;
 use mv_base::Bytes;
 use std::alloc::Global;
 use std::test::Fail;
@@ -90,5 +93,51 @@ fn bounds_answers(rt: HostRuntime) -> Result<(), Fail> {
     answers.push(Answer::Gone)?;
     answers.push(Answer::Gone)?;
     assert!(rt; !is_log(Vec::new(alloc), answers));
+    Ok(())
+}
+
+/// The faulty line of a text; 0 where the text is a log's, which is then written again.
+fn faulty_line(alloc: Global, text: &[u8]) -> Result<u64, Fail> {
+    match read_log(alloc, text) {
+        Ok(log) => {
+            let mut written = Vec::new(alloc);
+            write_log(&log, &mut written)?;
+            Ok(if written.as_slice() == text {
+                0
+            } else {
+                u64::MAX
+            })
+        }
+        Err(LogFault::Line(line)) => Ok(line),
+        Err(LogFault::NoMemory) => Err(Fail::from(LogFault::NoMemory)),
+    }
+}
+
+#[test]
+fn texts(rt: HostRuntime) -> Result<(), Fail> {
+    let rows = [
+        (b"".as_slice(), 1),
+        (b"log 1\narg 61\n".as_slice(), 0),
+        (b"log 1\nret ffffffff\n".as_slice(), 0),
+        (b"log 1\nret 00000000\nwrite 40000000 00\n".as_slice(), 0),
+        (b"log 1\nret 00000000\nwrit 40000000 00\n".as_slice(), 3),
+        (
+            b"log 1\nret 00000000\nmap 40000000 00001000 x -\n".as_slice(),
+            0,
+        ),
+    ];
+    for (text, line) in rows {
+        assert_eq!(rt; faulty_line(rt.alloc(), text)?, line);
+    }
+    Ok(())
+}
+
+#[test]
+fn fronts(rt: HostRuntime) -> Result<(), Fail> {
+    let text = b"log 1\narg 61\n";
+    let lines = [1, 1, 1, 1, 1, 1, 0, 2, 2, 2, 2, 2, 2, 0];
+    for (n, line) in lines.iter().enumerate() {
+        assert_eq!(rt; faulty_line(rt.alloc(), &text[..n])?, *line);
+    }
     Ok(())
 }

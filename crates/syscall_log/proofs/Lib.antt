@@ -1,0 +1,11 @@
+mod Digits
+mod Drafting
+mod Judging
+mod Numbers
+mod OneLog
+mod Prefixes
+mod Runs
+mod Spelling
+mod Splitting
+mod Steps
+mod Stuck

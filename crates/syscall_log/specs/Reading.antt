@@ -1,0 +1,91 @@
+-- How a line is read: each function gives what its text spells, or nothing.
+use Rattle.std.specs.Prelude.{ℕ, ◌+◌, ◌*◌, ◌-◌, ◌&&◌, ◌==◌, nat_le, nat_lt, if◌then◌else◌, List, [], ◌∷◌, length, take, drop, codes, Option, Some, None, option_map, option_and_then}
+use Rattle.std.specs.Option.{option_map_or}
+use Rattle.std.specs.Str.{bytes_eq}
+use Rattle.syscall_log.specs.declared.effect.Mode.{Mode}
+use Rattle.syscall_log.specs.declared.effect.Mode.TheVariants as mode
+use Rattle.syscall_log.specs.declared.effect.Effect.{Effect}
+use Rattle.syscall_log.specs.declared.effect.Effect.TheVariants as effect
+use Rattle.syscall_log.specs.declared.item.Item.{Item}
+use Rattle.syscall_log.specs.declared.item.Item.TheVariants as item
+
+-- a lower-case hexadecimal digit
+abbrev pub digit_value : ℕ → Option ℕ
+digit_value c =
+    if nat_le 48 c && nat_lt c 58 then Some (c - 48)
+    else (if nat_le 97 c && nat_lt c 103 then Some (c - 87) else None)
+
+-- the number whose first digits are n, and whose further ones are these
+unfoldable pub hex_value : ℕ → List ℕ → Option ℕ
+hex_value n [] = Some n
+hex_value n (c ∷ text) = option_and_then (λ d. hex_value (16 * n + d) text) (digit_value c)
+
+-- eight digits
+unfoldable pub number_in : List ℕ → Option ℕ
+number_in text = if length text == 8 then hex_value 0 text else None
+
+-- two digits a byte
+unfoldable pub pairs_in : List ℕ → Option (List ℕ)
+pairs_in [] = Some []
+pairs_in (h ∷ []) = None
+pairs_in (h ∷ l ∷ text) =
+    option_and_then (λ b. option_map (λ bytes. b ∷ bytes) (pairs_in text)) (hex_value 0 (h ∷ l ∷ []))
+
+-- one byte at least
+unfoldable pub hex_in : List ℕ → Option (List ℕ)
+hex_in text = if length text == 0 then None else pairs_in text
+
+-- bytes, or a dash for none
+unfoldable pub bytes_in : List ℕ → Option (List ℕ)
+bytes_in text = if bytes_eq text (codes "-") then Some [] else hex_in text
+
+-- what stands behind a prefix
+unfoldable pub behind : List ℕ → List ℕ → Option (List ℕ)
+behind [] text = Some text
+behind (c ∷ prefix) [] = None
+behind (c ∷ prefix) (x ∷ text) = if x == c then behind prefix text else None
+
+-- a number and a space, and what stands behind them
+unfoldable pub number_and : List ℕ → Option (ℕ × List ℕ)
+number_and text =
+    option_and_then (λ n. option_map (λ rest. (n, rest)) (behind (codes " ") (drop 8 text))) (number_in (take 8 text))
+
+-- a mode and a space, and what stands behind them
+unfoldable pub mode_and : List ℕ → Option (Mode × List ℕ)
+mode_and text =
+    option_map_or (λ rest. Some (mode.Read, rest)) (behind (codes "r ") text) (
+    option_map_or (λ rest. Some (mode.Write, rest)) (behind (codes "w ") text) (
+    option_map (λ rest. (mode.Exec, rest)) (behind (codes "x ") text)))
+
+-- what follows the word of an effect
+unfoldable pub write_in : List ℕ → Option Effect
+write_in text =
+    option_and_then (λ (lo, rest). option_map (λ bytes. effect.Write lo bytes) (hex_in rest)) (number_and text)
+
+unfoldable pub map_in : List ℕ → Option Effect
+map_in text =
+    option_and_then (λ (lo, rest).
+    option_and_then (λ (len, rest').
+    option_and_then (λ (mode, rest''). option_map (λ bytes. effect.Map lo len mode bytes) (bytes_in rest''))
+    (mode_and rest'))
+    (number_and rest))
+    (number_and text)
+
+unfoldable pub unmap_in : List ℕ → Option Effect
+unmap_in text = option_and_then (λ (lo, rest). option_map (λ len. effect.Unmap lo len) (number_in rest)) (number_and text)
+
+-- the effect of a line
+unfoldable pub effect_in : List ℕ → Option Effect
+effect_in line =
+    option_map_or write_in (behind (codes "write ") line) (
+    option_map_or map_in (behind (codes "map ") line) (
+    option_map_or unmap_in (behind (codes "unmap ") line) None))
+
+-- the item of a line
+unfoldable pub item_in : List ℕ → Option Item
+item_in line =
+    if bytes_eq line (codes "log 1") then Some item.Header
+    else (if bytes_eq line (codes "gone") then Some item.Gone
+    else (option_map_or (λ text. option_map item.Arg (bytes_in text)) (behind (codes "arg ") line) (
+    option_map_or (λ text. option_map item.Ret (number_in text)) (behind (codes "ret ") line) (
+    option_map item.Change (effect_in line)))))
