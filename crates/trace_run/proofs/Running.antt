@@ -1,0 +1,91 @@
+-- From the steps of a machine to what its run comes to.
+use Rattle.std.proofs.Common.{◌≡◌, ℕ, ◌+◌, ◌<◌, Option, Some, None, Result, Ok, Err, refl, sym, ap, ◌∙◌, subst, inl, inr, arith, add-one}
+use Rattle.std.specs.Option.{option_and_then}
+use Rattle.std.proofs.lemmas.Bool.{cases_lt}
+use Rattle.std.proofs.lemmas.Option.{same_Some}
+use Rattle.x86_insn.specs.declared.stop.Stop.{Stop}
+use Rattle.x86_insn.specs.declared.stop.Stop.TheVariants as stop
+use Rattle.x86_insn.specs.State.{State, Stopped}
+use Rattle.x86_insn.specs.State as state
+use Rattle.x86_insn.specs.Step.{step}
+use Rattle.x86_insn.specs.Run.{next_of, next_state, state_after}
+use Rattle.x86_insn.specs.TakenUp.{taken_up}
+use Rattle.x86_machine.specs.declared.machine.Outcome.{Outcome}
+use Rattle.x86_machine.specs.declared.machine.Outcome.TheVariants as outcome
+use Rattle.x86_machine.specs.Stepping.{Comes, IsStep}
+use Rattle.trace_run.specs.declared.report.End.{End}
+use Rattle.trace_run.specs.declared.report.Report.{Report}
+use Rattle.trace_run.specs.declared.tracing.TraceFault.{TraceFault}
+use Rattle.trace_run.specs.declared.tracing.TraceFault.TheVariants.{TooLarge, NoMemory}
+use Rattle.trace_run.specs.Outcomes.{ended_by}
+use Rattle.trace_run.specs.Reports.{KeepsBound, Reaches, Shows, Stops, IsRun, end_of}
+
+-- before the first step
+pub begins : (s : State) → Reaches s 0 s
+unfolding state_after
+begins s = record { state = refl; within = λ k t l e. absurd (omega arith) }
+
+-- a step that completes within the bound leads on
+pub goes_on : (first : State) (n : ℕ) (s t : State) → Reaches first n s → Comes (taken_up s) (step s) s (state.Next t) → Reaches first (n + 1) t
+unfolding state_after
+goes_on first n s t h comes = record {
+  state = ap (λ k. state_after k first) (add-one n) ∙ ap (option_and_then next_state) h.state ∙ ap next_of comes.is;
+  within = λ k u l e. elim (cases_lt k n) [
+    | inl before ↦ h.within k u before e
+    | inr here ↦
+        let same : n ≡ k = omega arith in
+        subst KeepsBound (same_Some _ _ (sym h.state ∙ ap (λ i. state_after i first) same ∙ e)) comes.within
+  ];
+}
+
+-- a step with no end completes
+pub goes : (s t : State) (o : Outcome) → ended_by o ≡ Ok None → IsStep s o t → Comes (taken_up s) (step s) s (state.Next t)
+goes s t outcome.Next e h = h
+goes s t (outcome.Trap kind at) e h = cc
+goes s t outcome.Outside e h = cc
+goes s t outcome.NoAnswer e h = cc
+goes s t outcome.BadAnswer e h = cc
+goes s t outcome.Gone e h = cc
+goes s t (outcome.TooLarge n) e h = cc
+goes s t outcome.NoMemory e h = cc
+
+module _ (first : State) (steps n : ℕ) (s t : State) (reached : Reaches first n s) (fewer : n < steps) where
+  stop_shown : (r : Report) (why : Stop) (e : End) → Comes (taken_up s) (step s) s (Stopped why t) → (let plain : Result (Option End) TraceFault = Ok (Some (end_of why)) in plain ≡ Ok (Some e)) → Shows r t e n → Stops first steps r
+  stop_shown r why e h same shown = record {
+    done = n;
+    fewer = fewer;
+    before = s;
+    reached = reached;
+    within = h.within;
+    why = why;
+    after = t;
+    stopped = h.is;
+    shown = let back : e ≡ end_of why = cc in subst (λ w. Shows r t w n) back shown;
+  }
+
+  -- a step with an end stops the run
+  pub ends : (r : Report) (o : Outcome) (e : End) → ended_by o ≡ Ok (Some e) → IsStep s o t → Shows r t e n → Stops first steps r
+  ends r outcome.Next e same h shown = cc
+  ends r (outcome.Trap kind at) e same h shown = stop_shown r (stop.Trap kind at) e h same shown
+  ends r outcome.Outside e same h shown = stop_shown r stop.Outside e h same shown
+  ends r outcome.NoAnswer e same h shown = stop_shown r stop.NoAnswer e h same shown
+  ends r outcome.BadAnswer e same h shown = stop_shown r stop.BadAnswer e h same shown
+  ends r outcome.Gone e same h shown = stop_shown r stop.Gone e h same shown
+  ends r (outcome.TooLarge size) e same h shown = cc
+  ends r outcome.NoMemory e same h shown = cc
+
+  -- a step that is refused refuses the run
+  pub refuses : (o : Outcome) (f : TraceFault) → ended_by o ≡ Err f → IsStep s o t → IsRun first steps (Err f)
+  refuses outcome.Next f same h = cc
+  refuses (outcome.Trap kind at) f same h = cc
+  refuses outcome.Outside f same h = cc
+  refuses outcome.NoAnswer f same h = cc
+  refuses outcome.BadAnswer f same h = cc
+  refuses outcome.Gone f same h = cc
+  refuses (outcome.TooLarge size) f same h =
+      let back : TooLarge size ≡ f = cc in
+      subst (λ g. IsRun first steps (Err g)) back
+      (record { done = n; fewer = fewer; before = s; reached = reached; left = h.memory; beyond = h.beyond })
+  refuses outcome.NoMemory f same h =
+      let back : NoMemory ≡ f = cc in
+      subst (λ g. IsRun first steps (Err g)) back tt
