@@ -1,132 +1,119 @@
 -- From when an answer comes, to which one has to come.
-use Rattle.std.proofs.Common.{◌≡◌, ◌≢◌, ℕ, false, List, Option, Some, None, IsSome, is_some, IsSomeAnd, IsTrue, sym, ◌∙◌, ap, refl, subst, inl, inr, arith}
+use Rattle.std.proofs.Common.{◌≡◌, ℕ, List, Option, Some, None, IsSomeAnd, IsTrue, sym, ◌∙◌, refl, subst, inl, inr}
+use Rattle.std.specs.List.{Contains}
 use Rattle.mv_base.specs.declared.status.Status.{Status}
 use Rattle.mv_base.specs.declared.status.Status.TheVariants.{Done, Usage, ReadFault, WriteFault, BadImage, NoRoom, BadLog, NoMemory, SinkFault, TooLarge}
-use Rattle.elf32_read.specs.declared.fault.ImageFault.{ImageFault}
-use Rattle.mv_rewrite.specs.Layout.{base_of}
-use Rattle.multiverse_cli.specs.Answers.{IsOversized, IsFaulty, LacksRoom, IsRewritable, Comes, ComesAt, ComesWithout, FirstDue, IsUnlessMemory, input_of, output_of}
-use Rattle.multiverse_cli.specs.Outside.{Stored, Printed, IsReadFault, IsWriteFault, IsSinkFault}
+use Rattle.multiverse_cli.specs.declared.refusal.Defect.{Defect}
+use Rattle.multiverse_cli.specs.Commands.{Lacks, Delivers}
+use Rattle.multiverse_cli.specs.Answers.{IsOversized, AreRead, IsUnwritten, IsLacking, HasDelivery, LacksFor, Comes, ComesAt, ComesWithout, FirstDue, IsUnlessMemory, NoneUnread}
+use Rattle.multiverse_cli.specs.Outside.{Stored, Printed, IsSinkFault}
+use Rattle.multiverse_cli.specs.Texts.{defect_status}
 use Rattle.multiverse_cli.specs.Words.{Asked}
+use Rattle.multiverse_cli.proofs.Inputs.{read-held, large-held, held-missing, read-oversized, read-large, read-one}
+use Rattle.multiverse_cli.proofs.Verdicts.{SpellsOne, one-defect, defect-clash}
 
--- two facts that cannot both be so of one value
-pub clash :
-    (o : Option (List ℕ)) (P Q : List ℕ → Type 0) → ((b : List ℕ) → P b → Q b → ⊥) → IsSomeAnd o P → IsSomeAnd o Q → ⊥
-clash None P Q never p q = p
-clash (Some b) P Q never p q = never b p q
+module _ (one : SpellsOne) (a : Asked) (s : Stored) (k : Printed) (t : IsTrue s.tells) where
+  -- ---- a name that isn't held
 
--- nothing is so of a value that isn't there
-pub nothing : (o : Option (List ℕ)) (P : List ℕ → Type 0) → o ≡ None → IsSomeAnd o P → ⊥
-nothing o P e h = let Q : Option (List ℕ) → Type 0 = λ v. IsSomeAnd v P in subst Q e h
+  module _ (name : List ℕ) (among : Contains a.reads name) (missing : s.before name ≡ None) where
+    unheld : {A : Type 0} (files : List (List ℕ)) → AreRead s a.reads files → A
+    unheld files read = absurd (held-missing s t a.reads name (read-held s a.reads files read) among missing)
 
--- a value that isn't there is none
-absent : {A : Type 0} (o : Option A) → o ≡ None → IsSome o → ⊥
-absent o e h = let none : is_some o ≡ false = ap is_some e in cc
+    missing-lacks : (status : Status) → LacksFor status a s → IsUnlessMemory status ReadFault
+    missing-lacks status h = unheld h.2.inputs h.2.read
 
-oversized-faulty : (fault : ImageFault) (b : List ℕ) → IsOversized b → IsFaulty b fault → ⊥
-oversized-faulty fault b h is = let fits = is.fits in omega arith
+    missing-due : (status : Status) → ComesAt status a s k → IsUnlessMemory status ReadFault
+    missing-due Done h = unheld h.1.inputs h.1.read
+    missing-due Usage h = absurd h
+    missing-due ReadFault h = inl refl
+    missing-due TooLarge h = elim h [
+      | inl large ↦ absurd (held-missing s t a.reads name (large-held s a.reads large.0 large.1) among missing)
+      | inr lacks ↦ missing-lacks TooLarge lacks
+    ]
+    missing-due BadImage h = missing-lacks BadImage h
+    missing-due BadLog h = missing-lacks BadLog h
+    missing-due NoRoom h = missing-lacks NoRoom h
+    missing-due WriteFault h = unheld h.1.1.inputs h.1.1.read
+    missing-due SinkFault h = unheld h.1.1.inputs h.1.1.read
+    missing-due NoMemory h = inr refl
 
-oversized-roomless : (n : ℕ) (b : List ℕ) → IsOversized b → LacksRoom b n → ⊥
-oversized-roomless n b h is = let fits = is.fits in omega arith
+  -- ---- a file that is too large
 
-oversized-rewritable : (b : List ℕ) → IsOversized b → IsRewritable b → ⊥
-oversized-rewritable b h is = let fits = is.fits in omega arith
+  module _ (name : List ℕ) (among : Contains a.reads name) (large : IsSomeAnd (s.before name) IsOversized) (all : NoneUnread a s) where
+    unfit : {A : Type 0} (files : List (List ℕ)) → AreRead s a.reads files → A
+    unfit files read = absurd (read-oversized s t a.reads files name read among large)
 
-faulty-roomless : (fault : ImageFault) (n : ℕ) (b : List ℕ) → IsFaulty b fault → LacksRoom b n → ⊥
-faulty-roomless fault n b h is = let e : None ≡ Some fault = sym is.sound ∙ h.faulty in cc
+    oversized-lacks : (status : Status) → LacksFor status a s → IsUnlessMemory status TooLarge
+    oversized-lacks status h = unfit h.2.inputs h.2.read
 
-faulty-rewritable : (fault : ImageFault) (b : List ℕ) → IsFaulty b fault → IsRewritable b → ⊥
-faulty-rewritable fault b h is = let e : None ≡ Some fault = sym is.sound ∙ h.faulty in cc
+    oversized-due : (status : Status) → ComesAt status a s k → IsUnlessMemory status TooLarge
+    oversized-due Done h = unfit h.1.inputs h.1.read
+    oversized-due Usage h = absurd h
+    oversized-due ReadFault h = absurd (all h.0 h.1)
+    oversized-due TooLarge h = inl refl
+    oversized-due BadImage h = oversized-lacks BadImage h
+    oversized-due BadLog h = oversized-lacks BadLog h
+    oversized-due NoRoom h = oversized-lacks NoRoom h
+    oversized-due WriteFault h = unfit h.1.1.inputs h.1.1.read
+    oversized-due SinkFault h = unfit h.1.1.inputs h.1.1.read
+    oversized-due NoMemory h = inr refl
 
-roomless-rewritable : (n : ℕ) (b : List ℕ) → LacksRoom b n → IsRewritable b → ⊥
-roomless-rewritable n b h is = absent (base_of b) h.no_room is.room
+  -- ---- files that lack something
 
-missing-due :
-    (status : Status) (a : Asked) (s : Stored) (k : Printed) → IsTrue s.tells → ComesAt status a s k
-    → s.before (input_of a) ≡ None → IsUnlessMemory status ReadFault
-missing-due Done a s k t h e = absurd (nothing _ _ e (h t))
-missing-due Usage a s k t h e = absurd h
-missing-due ReadFault a s k t h e = inl refl
-missing-due TooLarge a s k t h e = absurd (nothing _ _ e (h t))
-missing-due BadImage a s k t h e = absurd (nothing _ _ e (h.1 t))
-missing-due BadLog a s k t h e = absurd h
-missing-due NoRoom a s k t h e = absurd (nothing _ _ e (h.1 t))
-missing-due WriteFault a s k t h e = absurd (nothing _ _ e (h.1 t))
-missing-due SinkFault a s k t h e = absurd (nothing _ _ e (h.1 t))
-missing-due NoMemory a s k t h e = inr refl
+  module _ (why : Defect) (lacking : IsLacking a s why) (all : NoneUnread a s) where
+    -- the files of another verdict are these
+    these : (files : List (List ℕ)) → AreRead s a.reads files → files ≡ lacking.inputs
+    these files read = read-one s t a.reads files lacking.inputs read lacking.read
 
-oversized-due :
-    (status : Status) (a : Asked) (s : Stored) (k : Printed) → IsTrue s.tells → ComesAt status a s k
-    → IsSomeAnd (s.before (input_of a)) IsOversized → ¬ IsReadFault s (input_of a) → IsUnlessMemory status TooLarge
-oversized-due Done a s k t h is unfailed = absurd (clash _ IsOversized IsRewritable oversized-rewritable is (h t))
-oversized-due Usage a s k t h is unfailed = absurd h
-oversized-due ReadFault a s k t h is unfailed = absurd (unfailed h)
-oversized-due TooLarge a s k t h is unfailed = inl refl
-oversized-due BadImage a s k t h is unfailed =
-    absurd (clash _ IsOversized (λ b. IsFaulty b h.0) (oversized-faulty h.0) is (h.1 t))
-oversized-due BadLog a s k t h is unfailed = absurd h
-oversized-due NoRoom a s k t h is unfailed =
-    absurd (clash _ IsOversized (λ b. LacksRoom b h.0) (oversized-roomless h.0) is (h.1 t))
-oversized-due WriteFault a s k t h is unfailed = absurd (clash _ IsOversized IsRewritable oversized-rewritable is (h.1 t))
-oversized-due SinkFault a s k t h is unfailed = absurd (clash _ IsOversized IsRewritable oversized-rewritable is (h.1 t))
-oversized-due NoMemory a s k t h is unfailed = inr refl
+    lacking-delivers : {A : Type 0} → HasDelivery a s → A
+    lacking-delivers h =
+        let P : List (List ℕ) → Type 0 = λ files. Delivers a.work files h.0 in
+        absurd (defect-clash one a.work lacking.inputs why h.0 lacking.lacks (subst P (these h.1.inputs h.1.read) h.1.delivers))
 
-faulty-due :
-    (status : Status) (a : Asked) (s : Stored) (k : Printed) → IsTrue s.tells → ComesAt status a s k
-    → (fault : ImageFault) → IsSomeAnd (s.before (input_of a)) (λ b. IsFaulty b fault)
-    → ¬ IsReadFault s (input_of a) → IsUnlessMemory status BadImage
-faulty-due Done a s k t h fault is unfailed =
-    absurd (clash _ (λ b. IsFaulty b fault) IsRewritable (faulty-rewritable fault) is (h t))
-faulty-due Usage a s k t h fault is unfailed = absurd h
-faulty-due ReadFault a s k t h fault is unfailed = absurd (unfailed h)
-faulty-due TooLarge a s k t h fault is unfailed =
-    absurd (clash _ IsOversized (λ b. IsFaulty b fault) (oversized-faulty fault) (h t) is)
-faulty-due BadImage a s k t h fault is unfailed = inl refl
-faulty-due BadLog a s k t h fault is unfailed = absurd h
-faulty-due NoRoom a s k t h fault is unfailed =
-    absurd (clash _ (λ b. IsFaulty b fault) (λ b. LacksRoom b h.0) (faulty-roomless fault h.0) is (h.1 t))
-faulty-due WriteFault a s k t h fault is unfailed =
-    absurd (clash _ (λ b. IsFaulty b fault) IsRewritable (faulty-rewritable fault) is (h.1 t))
-faulty-due SinkFault a s k t h fault is unfailed =
-    absurd (clash _ (λ b. IsFaulty b fault) IsRewritable (faulty-rewritable fault) is (h.1 t))
-faulty-due NoMemory a s k t h fault is unfailed = inr refl
+    lacking-lacks : (status : Status) → LacksFor status a s → IsUnlessMemory status (defect_status why)
+    lacking-lacks status h =
+        let P : List (List ℕ) → Type 0 = λ files. Lacks a.work files h.0 in
+        inl (sym h.1 ∙ one-defect a.work lacking.inputs h.0 why (subst P (these h.2.inputs h.2.read) h.2.lacks) lacking.lacks)
 
-roomless-due :
-    (status : Status) (a : Asked) (s : Stored) (k : Printed) → IsTrue s.tells → ComesAt status a s k
-    → (n : ℕ) → IsSomeAnd (s.before (input_of a)) (λ b. LacksRoom b n)
-    → ¬ IsReadFault s (input_of a) → IsUnlessMemory status NoRoom
-roomless-due Done a s k t h n is unfailed =
-    absurd (clash _ (λ b. LacksRoom b n) IsRewritable (roomless-rewritable n) is (h t))
-roomless-due Usage a s k t h n is unfailed = absurd h
-roomless-due ReadFault a s k t h n is unfailed = absurd (unfailed h)
-roomless-due TooLarge a s k t h n is unfailed =
-    absurd (clash _ IsOversized (λ b. LacksRoom b n) (oversized-roomless n) (h t) is)
-roomless-due BadImage a s k t h n is unfailed =
-    absurd (clash _ (λ b. IsFaulty b h.0) (λ b. LacksRoom b n) (faulty-roomless h.0 n) (h.1 t) is)
-roomless-due BadLog a s k t h n is unfailed = absurd h
-roomless-due NoRoom a s k t h n is unfailed = inl refl
-roomless-due WriteFault a s k t h n is unfailed =
-    absurd (clash _ (λ b. LacksRoom b n) IsRewritable (roomless-rewritable n) is (h.1 t))
-roomless-due SinkFault a s k t h n is unfailed =
-    absurd (clash _ (λ b. LacksRoom b n) IsRewritable (roomless-rewritable n) is (h.1 t))
-roomless-due NoMemory a s k t h n is unfailed = inr refl
+    lacking-due : (status : Status) → ComesAt status a s k → IsUnlessMemory status (defect_status why)
+    lacking-due Done h = lacking-delivers h
+    lacking-due Usage h = absurd h
+    lacking-due ReadFault h = absurd (all h.0 h.1)
+    lacking-due TooLarge h = elim h [
+      | inl large ↦ absurd (read-large s t a.reads lacking.inputs large.0 lacking.read large.1)
+      | inr lacks ↦ lacking-lacks TooLarge lacks
+    ]
+    lacking-due BadImage h = lacking-lacks BadImage h
+    lacking-due BadLog h = lacking-lacks BadLog h
+    lacking-due NoRoom h = lacking-lacks NoRoom h
+    lacking-due WriteFault h = lacking-delivers h.1
+    lacking-due SinkFault h = lacking-delivers h.1
+    lacking-due NoMemory h = inr refl
 
-complete-due :
-    (status : Status) (a : Asked) (s : Stored) (k : Printed) → IsTrue s.tells → ComesAt status a s k
-    → IsSomeAnd (s.before (input_of a)) IsRewritable
-    → ¬ IsReadFault s (input_of a) → ¬ IsWriteFault s (output_of a) → ¬ IsSinkFault k → IsUnlessMemory status Done
-complete-due Done a s k t h is no_read no_write no_sink = inl refl
-complete-due Usage a s k t h is no_read no_write no_sink = absurd h
-complete-due ReadFault a s k t h is no_read no_write no_sink = absurd (no_read h)
-complete-due TooLarge a s k t h is no_read no_write no_sink =
-    absurd (clash _ IsOversized IsRewritable oversized-rewritable (h t) is)
-complete-due BadImage a s k t h is no_read no_write no_sink =
-    absurd (clash _ (λ b. IsFaulty b h.0) IsRewritable (faulty-rewritable h.0) (h.1 t) is)
-complete-due BadLog a s k t h is no_read no_write no_sink = absurd h
-complete-due NoRoom a s k t h is no_read no_write no_sink =
-    absurd (clash _ (λ b. LacksRoom b h.0) IsRewritable (roomless-rewritable h.0) (h.1 t) is)
-complete-due WriteFault a s k t h is no_read no_write no_sink = absurd (no_write h.0)
-complete-due SinkFault a s k t h is no_read no_write no_sink = absurd (no_sink h.0)
-complete-due NoMemory a s k t h is no_read no_write no_sink = inr refl
+  -- ---- files that lack nothing
+
+  module _
+      (files : List (List ℕ)) (read : AreRead s a.reads files) (whole : (why : Defect) → ¬ Lacks a.work files why) (all : NoneUnread a s)
+      (written : (name : List ℕ) → ¬ IsUnwritten a s name) (printed : ¬ IsSinkFault k) where
+    complete-lacks : (status : Status) → LacksFor status a s → IsUnlessMemory status Done
+    complete-lacks status h =
+        let P : List (List ℕ) → Type 0 = λ fs. Lacks a.work fs h.0 in
+        absurd (whole h.0 (subst P (read-one s t a.reads h.2.inputs files h.2.read read) h.2.lacks))
+
+    complete-due : (status : Status) → ComesAt status a s k → IsUnlessMemory status Done
+    complete-due Done h = inl refl
+    complete-due Usage h = absurd h
+    complete-due ReadFault h = absurd (all h.0 h.1)
+    complete-due TooLarge h = elim h [
+      | inl large ↦ absurd (read-large s t a.reads files large.0 read large.1)
+      | inr lacks ↦ complete-lacks TooLarge lacks
+    ]
+    complete-due BadImage h = complete-lacks BadImage h
+    complete-due BadLog h = complete-lacks BadLog h
+    complete-due NoRoom h = complete-lacks NoRoom h
+    complete-due WriteFault h = absurd (written h.0.0 h.0.1)
+    complete-due SinkFault h = absurd (printed h.0)
+    complete-due NoMemory h = inr refl
 
 usage-due : (status : Status) → ComesWithout status → IsUnlessMemory status Usage
 usage-due Done h = absurd h
@@ -141,17 +128,18 @@ usage-due SinkFault h = absurd h
 usage-due NoMemory h = inr refl
 
 -- which answer has to come
-pub due-of : (status : Status) (asked : Option Asked) (s : Stored) (k : Printed) → Comes status asked s k → FirstDue status asked s k
-due-of status None s k h = usage-due status h
-due-of status (Some a) s k h =
+pub due-of : SpellsOne → (status : Status) (asked : Option Asked) (s : Stored) (k : Printed) → Comes status asked s k → FirstDue status asked s k
+due-of one status None s k h = usage-due status h
+due-of one status (Some a) s k h =
     λ t. record {
-      missing = missing-due status a s k t h;
-      oversized = oversized-due status a s k t h;
-      faulty = faulty-due status a s k t h;
-      no_room = roomless-due status a s k t h;
-      complete = complete-due status a s k t h;
+      missing = λ name among missing. missing-due one a s k t name among missing status h;
+      oversized = λ name among large all. oversized-due one a s k t name among large all status h;
+      lacking = λ why lacking all. lacking-due one a s k t why lacking all status h;
+      complete = λ files read whole all written printed. complete-due one a s k t files read whole all written printed status h;
     }
 
 -- a read that failed at a name that the command doesn't read is no reason to answer ReadFault
-pub foreign-read : (a : Asked) (s : Stored) (k : Printed) → s.failed ≢ input_of a → Comes ReadFault (Some a) s k → ⊥
-foreign-read a s k other h = other h.failed
+pub foreign-read : (a : Asked) (s : Stored) (k : Printed) → ¬ Contains a.reads s.failed → Comes ReadFault (Some a) s k → ⊥
+foreign-read a s k other h =
+    let P : List ℕ → Type 0 = λ name. Contains a.reads name in
+    other (subst P (sym h.1.fault.failed) h.1.among)

@@ -1,36 +1,27 @@
 -- From what was tried and what was reported, to what the answer means.
-use Rattle.std.proofs.Common.{◌≡◌, ℕ, ◌⊎◌, List, [], Option, Some, None, Result, Ok, Err, IsSomeAnd, Vec, Global, sym, ◌∙◌, ap, subst, inl, inr, append-nil}
+use Rattle.std.proofs.Common.{◌≡◌, ℕ, ◌⊎◌, List, [], Option, Some, None, Result, Ok, Err, Vec, Global, refl, sym, ◌∙◌, ap, subst, inl, inr, append-nil}
 use Rattle.mv_base.specs.Holding.{KeepsOrBegins}
 use Rattle.mv_base.specs.declared.status.Status.{Status}
 use Rattle.mv_base.specs.declared.status.Status.TheVariants.{Done, Usage, ReadFault, WriteFault, BadImage, NoRoom, BadLog, NoMemory, SinkFault, TooLarge}
 use Rattle.multiverse_cli.specs.declared.failure.Failure.{Failure}
 use Rattle.multiverse_cli.specs.declared.failure.Failure.TheVariants as failure
+use Rattle.multiverse_cli.specs.declared.refusal.Defect.{Defect}
+use Rattle.multiverse_cli.specs.declared.refusal.Defect.TheVariants as defect
 use Rattle.multiverse_cli.specs.declared.refusal.Refusal.{Refusal}
 use Rattle.multiverse_cli.specs.declared.refusal.Refusal.TheVariants as refusal
-use Rattle.multiverse_cli.specs.Answers.{IsRewritable, InputIs, input_of, output_of, WritesOutput, BeginsOutput, IsInput, text_of, Comes, ComesAt, ComesWithout, Leaves, LeavesAt, Prints, PrintsAt, PrintsWithout, IsCutOff, OfMemory, OfRead, OfSize, OfImage, OfRoom, OfWrite, OfDone, Delivers}
-use Rattle.multiverse_cli.specs.Outside.{Stored, Printed, Held, Says, SaysPart}
+use Rattle.multiverse_cli.specs.Commands.{NewFile}
+use Rattle.multiverse_cli.specs.Answers.{IsLacking, Stores, BeginsToStore, Comes, ComesAt, ComesWithout, Leaves, LeavesAt, Prints, PrintsAt, PrintsWithout, IsCutOff, OfMemory, OfRead, OfSize, OfDefect, OfWrite, OfDone, DeliversAll}
+use Rattle.multiverse_cli.specs.Outside.{Stored, Printed, KeepsAll, Says, SaysPart}
 use Rattle.multiverse_cli.specs.Steps.{Attempts, IsCarriedOut, PrintsText, PrintsRefusal, Refuses, Reports}
-use Rattle.multiverse_cli.specs.Texts.{status_of, message_of, memory_message, read_message, size_message, write_message}
+use Rattle.multiverse_cli.specs.Texts.{status_of, message_of, memory_message, defect_status, defect_message}
 use Rattle.multiverse_cli.specs.Words.{Asked}
-
--- what is known of the bytes that the input held is known of the input
-pub input-is :
-    (a : Asked) (s : Stored) (fact : List ℕ → Type 0) (b : List ℕ) → Held s (input_of a) b → fact b → InputIs a s fact
-input-is a s fact b held h t = let P : Option (List ℕ) → Type 0 = λ o. IsSomeAnd o fact in subst P (sym (held t)) h
-
--- the input of a command that wrote its output is rewritten, and of one that began to
-pub written-input : (a : Asked) (s : Stored) → WritesOutput a s → InputIs a s IsRewritable
-written-input a s w = input-is a s IsRewritable w.b w.held w.rewrites.rewritable
-
-pub begun-input : (a : Asked) (s : Stored) → BeginsOutput a s → InputIs a s IsRewritable
-begun-input a s w = input-is a s IsRewritable w.b w.held w.rewrites.rewritable
 
 -- ---- when an answer comes
 
-pub comes-text :
+comes-text :
     (status : Status) (a : Asked) (s : Stored) (k : Printed) (text : List ℕ) → IsCarriedOut a s text → PrintsText status text k
     → ComesAt status a s k
-comes-text Done a s k text is h = written-input a s is.written
+comes-text Done a s k text is h = (is.delivery, is.is)
 comes-text Usage a s k text is h = absurd h
 comes-text ReadFault a s k text is h = absurd h
 comes-text TooLarge a s k text is h = absurd h
@@ -38,16 +29,21 @@ comes-text BadImage a s k text is h = absurd h
 comes-text BadLog a s k text is h = absurd h
 comes-text NoRoom a s k text is h = absurd h
 comes-text WriteFault a s k text is h = absurd h
-comes-text SinkFault a s k text is h = (h.0, written-input a s is.written)
+comes-text SinkFault a s k text is h = (h.0, (is.delivery, is.is))
 comes-text NoMemory a s k text is h = tt
 
-pub comes-why : (why : Refusal) (a : Asked) (s : Stored) (k : Printed) → Refuses why a s → ComesAt (status_of why) a s k
+comes-defect : (why : Defect) (a : Asked) (s : Stored) (k : Printed) → IsLacking a s why → ComesAt (defect_status why) a s k
+comes-defect (defect.BadImage fault) a s k h = (defect.BadImage fault, refl, h)
+comes-defect (defect.BadLog line) a s k h = (defect.BadLog line, refl, h)
+comes-defect (defect.TooLarge size) a s k h = inr (defect.TooLarge size, refl, h)
+comes-defect (defect.NoRoom size) a s k h = (defect.NoRoom size, refl, h)
+
+comes-why : (why : Refusal) (a : Asked) (s : Stored) (k : Printed) → Refuses why a s → ComesAt (status_of why) a s k
 comes-why refusal.Usage a s k h = h
-comes-why (refusal.ReadFault name) a s k h = h.1
-comes-why (refusal.TooLarge name) a s k h = h.1
-comes-why (refusal.BadImage fault) a s k h = (fault, h.0)
-comes-why (refusal.NoRoom size) a s k h = (size, h.0)
-comes-why (refusal.WriteFault name) a s k h = (h.1, begun-input a s h.2)
+comes-why (refusal.ReadFault name) a s k h = (name.now, h.0)
+comes-why (refusal.TooLarge name) a s k h = inl (name.now, h.0)
+comes-why (refusal.Lacking why) a s k h = comes-defect why a s k h.0
+comes-why (refusal.WriteFault name) a s k h = ((name.now, h.0), (h.1.0, h.1.1))
 
 comes-refused :
     (status : Status) (why : Refusal) (a : Asked) (s : Stored) (k : Printed) → Refuses why a s → PrintsRefusal status why k
@@ -76,24 +72,20 @@ comes-of (Err failure.NoMemory) status (Some a) s k tried reported =
 
 -- ---- what an answer leaves in the store
 
--- an output that was written whole was begun
-pub written-begun : (a : Asked) (s : Stored) → WritesOutput a s → BeginsOutput a s
-written-begun a s w =
-    record {
-      b = w.b;
-      x = w.x;
-      held = w.held;
-      rewrites = w.rewrites;
-      stored = λ t.
-          let P : Option (List ℕ) → Type 0 = λ o. KeepsOrBegins (s.before (output_of a)) o w.x in
-          subst P (sym (w.stored t)) (inr ([], sym (append-nil w.x)));
-      others = w.others;
-    }
+-- what was stored whole was begun
+pub stored-begun : (s : Stored) (file : Option NewFile) → Stores s file → BeginsToStore s file
+stored-begun s None h = h
+stored-begun s (Some f) h = (
+  λ t.
+      let P : Option (List ℕ) → Type 0 = λ o. KeepsOrBegins (s.before f.name) o f.bytes in
+      subst P (sym (h.0 t)) (inr ([], sym (append-nil f.bytes))),
+  h.1,
+)
 
-pub leaves-text :
+leaves-text :
     (status : Status) (a : Asked) (s : Stored) (k : Printed) (text : List ℕ) → IsCarriedOut a s text → PrintsText status text k
     → LeavesAt status a s
-leaves-text Done a s k text is h = is.written
+leaves-text Done a s k text is h = (is.delivery, is.is, is.stored)
 leaves-text Usage a s k text is h = absurd h
 leaves-text ReadFault a s k text is h = absurd h
 leaves-text TooLarge a s k text is h = absurd h
@@ -101,25 +93,29 @@ leaves-text BadImage a s k text is h = absurd h
 leaves-text BadLog a s k text is h = absurd h
 leaves-text NoRoom a s k text is h = absurd h
 leaves-text WriteFault a s k text is h = absurd h
-leaves-text SinkFault a s k text is h = is.written
-leaves-text NoMemory a s k text is h = inr (written-begun a s is.written)
+leaves-text SinkFault a s k text is h = (is.delivery, is.is, is.stored)
+leaves-text NoMemory a s k text is h = inr (is.delivery, is.is, stored-begun s is.delivery.file is.stored)
 
-pub leaves-why : (why : Refusal) (a : Asked) (s : Stored) → Refuses why a s → LeavesAt (status_of why) a s
+leaves-defect : (why : Defect) (a : Asked) (s : Stored) → KeepsAll s → LeavesAt (defect_status why) a s
+leaves-defect (defect.BadImage fault) a s h = h
+leaves-defect (defect.BadLog line) a s h = h
+leaves-defect (defect.TooLarge size) a s h = h
+leaves-defect (defect.NoRoom size) a s h = h
+
+leaves-why : (why : Refusal) (a : Asked) (s : Stored) → Refuses why a s → LeavesAt (status_of why) a s
 leaves-why refusal.Usage a s h = absurd h
-leaves-why (refusal.ReadFault name) a s h = h.2
-leaves-why (refusal.TooLarge name) a s h = h.2
-leaves-why (refusal.BadImage fault) a s h = h.1
-leaves-why (refusal.NoRoom size) a s h = h.1
-leaves-why (refusal.WriteFault name) a s h = h.2
+leaves-why (refusal.ReadFault name) a s h = h.1
+leaves-why (refusal.TooLarge name) a s h = h.1
+leaves-why (refusal.Lacking why) a s h = leaves-defect why a s h.1
+leaves-why (refusal.WriteFault name) a s h = h.1
 
 -- a refusal leaves what want of memory may leave
-pub leaves-starved : (why : Refusal) (a : Asked) (s : Stored) → Refuses why a s → LeavesAt NoMemory a s
+leaves-starved : (why : Refusal) (a : Asked) (s : Stored) → Refuses why a s → LeavesAt NoMemory a s
 leaves-starved refusal.Usage a s h = absurd h
-leaves-starved (refusal.ReadFault name) a s h = inl h.2
-leaves-starved (refusal.TooLarge name) a s h = inl h.2
-leaves-starved (refusal.BadImage fault) a s h = inl h.1
-leaves-starved (refusal.NoRoom size) a s h = inl h.1
-leaves-starved (refusal.WriteFault name) a s h = inr h.2
+leaves-starved (refusal.ReadFault name) a s h = inl h.1
+leaves-starved (refusal.TooLarge name) a s h = inl h.1
+leaves-starved (refusal.Lacking why) a s h = inl h.1
+leaves-starved (refusal.WriteFault name) a s h = inr h.1
 
 leaves-refused :
     (status : Status) (why : Refusal) (a : Asked) (s : Stored) (k : Printed) → Refuses why a s → PrintsRefusal status why k
@@ -142,49 +138,45 @@ leaves-of (Err failure.NoMemory) status (Some a) s k tried reported =
 
 -- ---- what an answer prints
 
--- the input of a command that wrote its output
-pub written-is-input : (a : Asked) (s : Stored) (w : WritesOutput a s) → IsInput a s w.b
-written-is-input a s w = record { held = w.held; rewritable = w.rewrites.rewritable }
+prints-text :
+    (status : Status) (a : Asked) (s : Stored) (k : Printed) (text : List ℕ) (is : IsCarriedOut a s text)
+    → PrintsText status is.delivery.text k → PrintsAt status a s k
+prints-text Done a s k text is h = (is.delivery, is.is, h)
+prints-text Usage a s k text is h = absurd h
+prints-text ReadFault a s k text is h = absurd h
+prints-text TooLarge a s k text is h = absurd h
+prints-text BadImage a s k text is h = absurd h
+prints-text BadLog a s k text is h = absurd h
+prints-text NoRoom a s k text is h = absurd h
+prints-text WriteFault a s k text is h = absurd h
+prints-text SinkFault a s k text is h = (is.delivery, is.is, h.1)
+prints-text NoMemory a s k text is h = (is.delivery.text, OfDone is.delivery is.is, h)
 
-pub prints-text :
-    (status : Status) (a : Asked) (s : Stored) (k : Printed) (b : List ℕ) → IsInput a s b → PrintsText status (text_of b) k
-    → PrintsAt status a s k
-prints-text Done a s k b is h = (b, is, h)
-prints-text Usage a s k b is h = absurd h
-prints-text ReadFault a s k b is h = absurd h
-prints-text TooLarge a s k b is h = absurd h
-prints-text BadImage a s k b is h = absurd h
-prints-text BadLog a s k b is h = absurd h
-prints-text NoRoom a s k b is h = absurd h
-prints-text WriteFault a s k b is h = absurd h
-prints-text SinkFault a s k b is h = (b, is, h.1)
-prints-text NoMemory a s k b is h = (text_of b, OfDone b is, h)
+says-defect :
+    (why : Defect) (a : Asked) (s : Stored) (k : Printed) → IsLacking a s why → Says k (defect_message why)
+    → PrintsAt (defect_status why) a s k
+says-defect (defect.BadImage fault) a s k h said = (defect.BadImage fault, refl, h, said)
+says-defect (defect.BadLog line) a s k h said = (defect.BadLog line, refl, h, said)
+says-defect (defect.TooLarge size) a s k h said = inr (defect.TooLarge size, refl, h, said)
+says-defect (defect.NoRoom size) a s k h said = (defect.NoRoom size, refl, h, said)
 
 -- the message of a refusal, as it is said of the command
-pub says-why :
+says-why :
     (why : Refusal) (a : Asked) (s : Stored) (k : Printed) → Refuses why a s → Says k (message_of why)
     → PrintsAt (status_of why) a s k
 says-why refusal.Usage a s k h said = absurd h
-says-why (refusal.ReadFault name) a s k h said =
-    let P : List ℕ → Type 0 = λ n. Says k (read_message n) in subst P h.0 said
-says-why (refusal.TooLarge name) a s k h said =
-    let P : List ℕ → Type 0 = λ n. Says k (size_message n) in subst P h.0 said
-says-why (refusal.BadImage fault) a s k h said = (fault, h.0, said)
-says-why (refusal.NoRoom size) a s k h said = (size, h.0, said)
-says-why (refusal.WriteFault name) a s k h said =
-    let P : List ℕ → Type 0 = λ n. Says k (write_message n) in subst P h.0 said
+says-why (refusal.ReadFault name) a s k h said = (name.now, h.0, said)
+says-why (refusal.TooLarge name) a s k h said = inl (name.now, h.0, said)
+says-why (refusal.Lacking why) a s k h said = says-defect why a s k h.0 said
+says-why (refusal.WriteFault name) a s k h said = (name.now, h.0, said)
 
 -- the message of a refusal is one that want of memory may cut off
-pub cut-off : (why : Refusal) (a : Asked) (s : Stored) → Refuses why a s → IsCutOff a s (message_of why)
+cut-off : (why : Refusal) (a : Asked) (s : Stored) → Refuses why a s → IsCutOff a s (message_of why)
 cut-off refusal.Usage a s h = absurd h
-cut-off (refusal.ReadFault name) a s h =
-    let P : List ℕ → Type 0 = λ n. IsCutOff a s (read_message n) in subst P (sym h.0) (OfRead h.1)
-cut-off (refusal.TooLarge name) a s h =
-    let P : List ℕ → Type 0 = λ n. IsCutOff a s (size_message n) in subst P (sym h.0) (OfSize h.1)
-cut-off (refusal.BadImage fault) a s h = OfImage fault h.0
-cut-off (refusal.NoRoom size) a s h = OfRoom size h.0
-cut-off (refusal.WriteFault name) a s h =
-    let P : List ℕ → Type 0 = λ n. IsCutOff a s (write_message n) in subst P (sym h.0) (OfWrite h.1)
+cut-off (refusal.ReadFault name) a s h = OfRead name.now h.0
+cut-off (refusal.TooLarge name) a s h = OfSize name.now h.0
+cut-off (refusal.Lacking why) a s h = OfDefect why h.0
+cut-off (refusal.WriteFault name) a s h = OfWrite name.now h.0
 
 prints-starved :
     (why : Refusal) (a : Asked) (s : Stored) (k : Printed) → Refuses why a s
@@ -220,7 +212,7 @@ pub prints-of :
 prints-of (Ok text) status None s k tried reported = absurd tried
 prints-of (Ok text) status (Some a) s k tried reported =
     let P : List ℕ → Type 0 = λ t. PrintsText status t k in
-    prints-text status a s k tried.written.b (written-is-input a s tried.written) (subst P tried.text_is reported)
+    prints-text status a s k text.items tried (subst P tried.text_is reported)
 prints-of (Err (failure.Refused why)) status None s k tried reported = prints-without status why k tried.0 reported
 prints-of (Err (failure.Refused why)) status (Some a) s k tried reported = prints-refused status why a s k tried reported
 prints-of (Err failure.NoMemory) status None s k tried reported = absurd tried
@@ -231,43 +223,47 @@ prints-of (Err failure.NoMemory) status (Some a) s k tried reported =
 -- ---- what Done delivers
 
 delivers-text :
-    (status : Status) (a : Asked) (s : Stored) (k : Printed) (w : WritesOutput a s) → PrintsText status (text_of w.b) k
-    → Delivers status (Some a) s k
-delivers-text Done a s k w h =
-    record { b = w.b; x = w.x; held = w.held; rewrites = w.rewrites; stored = w.stored; printed = h }
-delivers-text Usage a s k w h = tt
-delivers-text ReadFault a s k w h = tt
-delivers-text TooLarge a s k w h = tt
-delivers-text BadImage a s k w h = tt
-delivers-text BadLog a s k w h = tt
-delivers-text NoRoom a s k w h = tt
-delivers-text WriteFault a s k w h = tt
-delivers-text SinkFault a s k w h = tt
-delivers-text NoMemory a s k w h = tt
+    (status : Status) (a : Asked) (s : Stored) (k : Printed) (text : List ℕ) (is : IsCarriedOut a s text)
+    → PrintsText status is.delivery.text k → DeliversAll status (Some a) s k
+delivers-text Done a s k text is h = record { delivery = is.delivery; is = is.is; stored = is.stored; printed = h }
+delivers-text Usage a s k text is h = tt
+delivers-text ReadFault a s k text is h = tt
+delivers-text TooLarge a s k text is h = tt
+delivers-text BadImage a s k text is h = tt
+delivers-text BadLog a s k text is h = tt
+delivers-text NoRoom a s k text is h = tt
+delivers-text WriteFault a s k text is h = tt
+delivers-text SinkFault a s k text is h = tt
+delivers-text NoMemory a s k text is h = tt
 
-pub delivers-why : (why : Refusal) (asked : Option Asked) (s : Stored) (k : Printed) → Delivers (status_of why) asked s k
+delivers-defect : (why : Defect) (asked : Option Asked) (s : Stored) (k : Printed) → DeliversAll (defect_status why) asked s k
+delivers-defect (defect.BadImage fault) asked s k = tt
+delivers-defect (defect.BadLog line) asked s k = tt
+delivers-defect (defect.TooLarge size) asked s k = tt
+delivers-defect (defect.NoRoom size) asked s k = tt
+
+delivers-why : (why : Refusal) (asked : Option Asked) (s : Stored) (k : Printed) → DeliversAll (status_of why) asked s k
 delivers-why refusal.Usage asked s k = tt
 delivers-why (refusal.ReadFault name) asked s k = tt
 delivers-why (refusal.TooLarge name) asked s k = tt
-delivers-why (refusal.BadImage fault) asked s k = tt
-delivers-why (refusal.NoRoom size) asked s k = tt
+delivers-why (refusal.Lacking why) asked s k = delivers-defect why asked s k
 delivers-why (refusal.WriteFault name) asked s k = tt
 
 delivers-refused :
     (status : Status) (why : Refusal) (asked : Option Asked) (s : Stored) (k : Printed) → PrintsRefusal status why k
-    → Delivers status asked s k
+    → DeliversAll status asked s k
 delivers-refused status why asked s k reported =
-    let P : Status → Type 0 = λ st. Delivers st asked s k in
+    let P : Status → Type 0 = λ st. DeliversAll st asked s k in
     elim reported [ inl is ↦ subst P (sym is.answer_is) (delivers-why why asked s k) | inr is ↦ subst P (sym is.answer_is) tt ]
 
 -- what the answer delivers
 pub delivers-of :
     (r : Result (Vec ℕ Global) Failure) (status : Status) (asked : Option Asked) (s : Stored) (k : Printed)
-    → Attempts r asked s → Reports status r k → Delivers status asked s k
+    → Attempts r asked s → Reports status r k → DeliversAll status asked s k
 delivers-of (Ok text) status None s k tried reported = absurd tried
 delivers-of (Ok text) status (Some a) s k tried reported =
     let P : List ℕ → Type 0 = λ t. PrintsText status t k in
-    delivers-text status a s k tried.written (subst P tried.text_is reported)
+    delivers-text status a s k text.items tried (subst P tried.text_is reported)
 delivers-of (Err (failure.Refused why)) status asked s k tried reported = delivers-refused status why asked s k reported
 delivers-of (Err failure.NoMemory) status asked s k tried reported =
-    let P : Status → Type 0 = λ st. Delivers st asked s k in subst P (sym reported.0) tt
+    let P : Status → Type 0 = λ st. DeliversAll st asked s k in subst P (sym reported.0) tt

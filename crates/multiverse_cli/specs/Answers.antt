@@ -1,84 +1,70 @@
--- What an answer of the program means. This project's own.
-use Rattle.std.specs.Prelude.{◌≡◌, ℕ, ◌<◌, ◌≤◌, ◌⊎◌, IsTrue, List, length, Option, Some, None, IsSome, IsSomeAnd, unwrap_or}
+-- What an answer of the program means, for any command. This project's own.
+use Rattle.std.specs.Prelude.{◌≡◌, ℕ, ◌<◌, ◌≤◌, ◌⊎◌, IsTrue, List, [], ◌∷◌, length, Contains, Option, Some, None, IsSomeAnd}
 use Rattle.mv_base.specs.Holding.{KeepsOrBegins}
 use Rattle.mv_base.specs.declared.status.Status.{Status}
 use Rattle.mv_base.specs.declared.status.Status.TheVariants.{Done, Usage, ReadFault, WriteFault, BadImage, NoRoom, BadLog, NoMemory, SinkFault, TooLarge}
-use Rattle.elf32_read.specs.declared.fault.ImageFault.{ImageFault}
-use Rattle.elf32_read.specs.Faults.{refusal}
-use Rattle.mv_rewrite.specs.Sites.{sites}
-use Rattle.mv_rewrite.specs.Layout.{base_of, size}
-use Rattle.mv_rewrite.specs.Output.{output}
-use Rattle.elf32_write.specs.Frame.{Frame}
-use Rattle.simulation_laws.specs.Stopping.{Simulates}
-use Rattle.mv_rewrite.specs.OutputFile.{IsWrittenFor}
-use Rattle.multiverse_cli.specs.Outside.{Stored, Printed, IsReadFault, IsWriteFault, IsSinkFault, KeepsAll, KeepsOthers, Held, Holds, SaysAll, SaysPart, Says}
-use Rattle.multiverse_cli.specs.Texts.{rewritten_text, usage_message, read_message, size_message, image_message, room_message, write_message, memory_message}
-use Rattle.multiverse_cli.specs.Words.{Asked, ToRewrite}
+use Rattle.multiverse_cli.specs.declared.refusal.Defect.{Defect}
+use Rattle.multiverse_cli.specs.Commands.{NewFile, Delivery, Lacks, Delivers}
+use Rattle.multiverse_cli.specs.Outside.{Stored, Printed, IsReadFault, IsWriteFault, IsSinkFault, KeepsAll, KeepsOthers, Held, Holds, HeldAs, SaysAll, SaysPart, Says}
+use Rattle.multiverse_cli.specs.Texts.{usage_message, read_message, size_message, write_message, memory_message, defect_message, defect_status}
+use Rattle.multiverse_cli.specs.Words.{Asked, output_of}
 
--- ---- files
+-- ---- the files that a command reads
 
 -- how many bytes a file that is read may have: 64 MiB
 abbrev pub size_limit : ℕ
 size_limit = 67108864
 
--- a file that is too large
 abbrev pub IsOversized : List ℕ → Type 0
 IsOversized b = size_limit < length b
 
--- a file that is read and whose first fault is this one
-pub record IsFaulty (b : List ℕ) (fault : ImageFault) : Type 0 where
-  pub fits : length b ≤ size_limit
-  pub faulty : refusal b ≡ Some fault
+abbrev pub Fits : List ℕ → Type 0
+Fits b = length b ≤ size_limit
 
--- a file that is read and has no fault, and whose addresses have no room for its block, which has this size
-pub record LacksRoom (b : List ℕ) (n : ℕ) : Type 0 where
-  pub fits : length b ≤ size_limit
-  pub sound : refusal b ≡ None
-  pub no_room : base_of b ≡ None
-  pub size_is : n ≡ size b
+-- bytes for each of the names, none with too many; where the store tells, the names held them at entry
+abbrev pub AreRead : Stored → List (List ℕ) → List (List ℕ) → Type 0
+AreRead s [] [] = Unit {0}
+AreRead s [] (b ∷ bs) = ⊥
+AreRead s (n ∷ ns) [] = ⊥
+AreRead s (n ∷ ns) (b ∷ bs) = Held s n b × Fits b × AreRead s ns bs
 
--- a file that is rewritten: it is read, has no fault, and its addresses have room
-pub record IsRewritable (b : List ℕ) : Type 0 where
-  pub fits : length b ≤ size_limit
-  pub sound : refusal b ≡ None
-  pub room : IsSome (base_of b)
+-- where the store tells, the names held something at entry
+abbrev pub AllHeld : Stored → List (List ℕ) → Type 0
+AllHeld s [] = Unit {0}
+AllHeld s (n ∷ ns) = HeldAs s n (λ b. Unit {0}) × AllHeld s ns
 
--- a file that is rewritten, and its one output, which simulates it: while the file completes steps that are clear of
--- the added addresses and of changes to its code, the output passes in order through a state that agrees after each
--- one, shows nothing in between, and stops where the file stops (by a fetch fault at the same address, where the file
--- meets bytes that are no instruction); and it is what is written for the file: an image with a frame, in which the
--- file, its code, the table and the private area stand and load so
-pub record Rewrites (b x : List ℕ) : Type 0 where
-  pub rewritable : IsRewritable b
-  pub output_is : output b ≡ Some x
-  pub simulates : Simulates b x
-  pub written : (f : Frame) × IsWrittenFor b x f
+-- all names could be read, and this is the first of them that, where the store tells, held too many bytes at entry
+pub data IsFirstOversized (s : Stored) : List (List ℕ) → List ℕ → Type 0 where
+  Here : (n : List ℕ) (ns : List (List ℕ)) → HeldAs s n IsOversized → AllHeld s ns → IsFirstOversized s (n ∷ ns) n
+  Later :
+      (n : List ℕ) (ns : List (List ℕ)) (m : List ℕ) → HeldAs s n Fits → IsFirstOversized s ns m
+      → IsFirstOversized s (n ∷ ns) m
 
--- what is printed of a file that is rewritten: the number of its sites, the added addresses, and no counter
-abbrev pub text_of : List ℕ → List ℕ
-text_of b = rewritten_text (length (sites b)) (unwrap_or (base_of b) 0) (size b) 0
+-- a file that the command reads could not be read
+pub record IsUnread (a : Asked) (s : Stored) (name : List ℕ) : Type 0 where
+  pub among : Contains a.reads name
+  pub fault : IsReadFault s name
 
--- ---- commands
+-- the file that the command writes could not be written
+pub record IsUnwritten (a : Asked) (s : Stored) (name : List ℕ) : Type 0 where
+  pub is_output : output_of a.work ≡ Some name
+  pub fault : IsWriteFault s name
 
--- the file that a command reads
-abbrev pub input_of : Asked → List ℕ
-input_of (ToRewrite input output) = input
+-- what the files that the command reads lack
+pub record IsLacking (a : Asked) (s : Stored) (why : Defect) : Type 0 where
+  pub inputs : List (List ℕ)
+  pub read : AreRead s a.reads inputs
+  pub lacks : Lacks a.work inputs why
 
--- the file that a command writes
-abbrev pub output_of : Asked → List ℕ
-output_of (ToRewrite input output) = output
+-- what the command delivers over the files that it reads
+pub record IsDelivery (a : Asked) (s : Stored) (d : Delivery) : Type 0 where
+  pub inputs : List (List ℕ)
+  pub read : AreRead s a.reads inputs
+  pub delivers : Delivers a.work inputs d
 
--- where the store tells, the command's input is held at entry, and this is so of its bytes
-abbrev pub InputIs : Asked → Stored → (List ℕ → Type 0) → Type 0
-InputIs a s fact = IsTrue s.tells → IsSomeAnd (s.before (input_of a)) fact
-
--- where the store tells, the first fault of the command's input is this one
-abbrev pub IsFaultyInput : Asked → Stored → ImageFault → Type 0
-IsFaultyInput a s fault = InputIs a s (λ b. IsFaulty b fault)
-
--- where the store tells, the command's input lacks room for its block, which has this size
-abbrev pub LacksRoomInput : Asked → Stored → ℕ → Type 0
-LacksRoomInput a s n = InputIs a s (λ b. LacksRoom b n)
+-- there is something that it delivers
+abbrev pub HasDelivery : Asked → Stored → Type 0
+HasDelivery a s = (d : Delivery) × IsDelivery a s d
 
 -- ---- when an answer comes
 
@@ -95,17 +81,21 @@ ComesWithout WriteFault = ⊥
 ComesWithout SinkFault = ⊥
 ComesWithout NoMemory = Unit {0}
 
--- at a command: each fault of the outside only where its count rose, the others only where the input is so
+-- the files that the command reads lack something that has this answer
+abbrev pub LacksFor : Status → Asked → Stored → Type 0
+LacksFor status a s = (why : Defect) × (defect_status why ≡ status) × IsLacking a s why
+
+-- at a command: each fault of the outside only where its count rose, the others only where the files are so
 abbrev pub ComesAt : Status → Asked → Stored → Printed → Type 0
-ComesAt Done a s k = InputIs a s IsRewritable
+ComesAt Done a s k = HasDelivery a s
 ComesAt Usage a s k = ⊥
-ComesAt ReadFault a s k = IsReadFault s (input_of a)
-ComesAt TooLarge a s k = InputIs a s IsOversized
-ComesAt BadImage a s k = (fault : ImageFault) × IsFaultyInput a s fault
-ComesAt BadLog a s k = ⊥
-ComesAt NoRoom a s k = (n : ℕ) × LacksRoomInput a s n
-ComesAt WriteFault a s k = IsWriteFault s (output_of a) × InputIs a s IsRewritable
-ComesAt SinkFault a s k = IsSinkFault k × InputIs a s IsRewritable
+ComesAt ReadFault a s k = (name : List ℕ) × IsUnread a s name
+ComesAt TooLarge a s k = ((name : List ℕ) × IsFirstOversized s a.reads name) ⊎ LacksFor TooLarge a s
+ComesAt BadImage a s k = LacksFor BadImage a s
+ComesAt BadLog a s k = LacksFor BadLog a s
+ComesAt NoRoom a s k = LacksFor NoRoom a s
+ComesAt WriteFault a s k = ((name : List ℕ) × IsUnwritten a s name) × HasDelivery a s
+ComesAt SinkFault a s k = IsSinkFault k × HasDelivery a s
 ComesAt NoMemory a s k = Unit {0}
 
 -- when an answer may come
@@ -117,25 +107,24 @@ Comes status (Some a) s k = ComesAt status a s k
 abbrev pub IsUnlessMemory : Status → Status → Type 0
 IsUnlessMemory status expected = (status ≡ expected) ⊎ (status ≡ NoMemory)
 
+-- each file that the command reads could be read
+abbrev pub NoneUnread : Asked → Stored → Type 0
+NoneUnread a s = (name : List ℕ) → ¬ IsUnread a s name
+
 -- which answer has to come, want of memory aside, where none before it is due and the store tells
 pub record IsDue (status : Status) (a : Asked) (s : Stored) (k : Printed) : Type 0 where
   -- a name that isn't held cannot be read
-  pub missing : s.before (input_of a) ≡ None → IsUnlessMemory status ReadFault
+  pub missing : (name : List ℕ) → Contains a.reads name → s.before name ≡ None → IsUnlessMemory status ReadFault
   -- a file that is too large is refused
   pub oversized :
-      IsSomeAnd (s.before (input_of a)) IsOversized → ¬ IsReadFault s (input_of a) → IsUnlessMemory status TooLarge
-  -- an image with a fault is refused
-  pub faulty :
-      (fault : ImageFault) → IsSomeAnd (s.before (input_of a)) (λ b. IsFaulty b fault)
-      → ¬ IsReadFault s (input_of a) → IsUnlessMemory status BadImage
-  -- an image without room for its block is refused
-  pub no_room :
-      (n : ℕ) → IsSomeAnd (s.before (input_of a)) (λ b. LacksRoom b n)
-      → ¬ IsReadFault s (input_of a) → IsUnlessMemory status NoRoom
-  -- every other file is rewritten, where nothing outside fails
+      (name : List ℕ) → Contains a.reads name → IsSomeAnd (s.before name) IsOversized → NoneUnread a s
+      → IsUnlessMemory status TooLarge
+  -- files that lack something are refused
+  pub lacking : (why : Defect) → IsLacking a s why → NoneUnread a s → IsUnlessMemory status (defect_status why)
+  -- all other files have what is delivered over them, where nothing outside fails
   pub complete :
-      IsSomeAnd (s.before (input_of a)) IsRewritable
-      → ¬ IsReadFault s (input_of a) → ¬ IsWriteFault s (output_of a) → ¬ IsSinkFault k → IsUnlessMemory status Done
+      (inputs : List (List ℕ)) → AreRead s a.reads inputs → ((why : Defect) → ¬ Lacks a.work inputs why)
+      → NoneUnread a s → ((name : List ℕ) → ¬ IsUnwritten a s name) → ¬ IsSinkFault k → IsUnlessMemory status Done
 
 -- which answer has to come: Usage without a command, else the first that is due
 abbrev pub FirstDue : Status → Option Asked → Stored → Printed → Type 0
@@ -144,36 +133,36 @@ FirstDue status (Some a) s k = IsTrue s.tells → IsDue status a s k
 
 -- ---- what an answer leaves in the store
 
--- the output holds the one output of what the input held, and no other name has changed
-pub record WritesOutput (a : Asked) (s : Stored) : Type 0 where
-  pub b : List ℕ
-  pub x : List ℕ
-  pub held : Held s (input_of a) b
-  pub rewrites : Rewrites b x
-  pub stored : Holds s (output_of a) x
-  pub others : KeepsOthers s (output_of a)
+-- the new file stands under its name, and no other name has changed; without a new file nothing has
+abbrev pub Stores : Stored → Option NewFile → Type 0
+Stores s None = KeepsAll s
+Stores s (Some f) = Holds s f.name f.bytes × KeepsOthers s f.name
 
--- the output holds what it held, or a part with which that one output begins, and no other name has changed
-pub record BeginsOutput (a : Asked) (s : Stored) : Type 0 where
-  pub b : List ℕ
-  pub x : List ℕ
-  pub held : Held s (input_of a) b
-  pub rewrites : Rewrites b x
-  pub stored : IsTrue s.tells → KeepsOrBegins (s.before (output_of a)) (s.after (output_of a)) x
-  pub others : KeepsOthers s (output_of a)
+-- the name of the new file holds what it held, or a part with which the file begins, and no other name has changed;
+-- without a new file nothing has
+abbrev pub BeginsToStore : Stored → Option NewFile → Type 0
+BeginsToStore s None = KeepsAll s
+BeginsToStore s (Some f) = (IsTrue s.tells → KeepsOrBegins (s.before f.name) (s.after f.name) f.bytes) × KeepsOthers s f.name
 
--- at a command: only these three answers, and want of memory, may have changed the output
+-- what the command delivers is stored, or that was begun
+abbrev pub HasStored : Asked → Stored → Type 0
+HasStored a s = (d : Delivery) × IsDelivery a s d × Stores s d.file
+
+abbrev pub HasBegun : Asked → Stored → Type 0
+HasBegun a s = (d : Delivery) × IsDelivery a s d × BeginsToStore s d.file
+
+-- at a command: only these three answers, and want of memory, may have changed a file
 abbrev pub LeavesAt : Status → Asked → Stored → Type 0
-LeavesAt Done a s = WritesOutput a s
+LeavesAt Done a s = HasStored a s
 LeavesAt Usage a s = KeepsAll s
 LeavesAt ReadFault a s = KeepsAll s
 LeavesAt TooLarge a s = KeepsAll s
 LeavesAt BadImage a s = KeepsAll s
 LeavesAt BadLog a s = KeepsAll s
 LeavesAt NoRoom a s = KeepsAll s
-LeavesAt WriteFault a s = BeginsOutput a s
-LeavesAt SinkFault a s = WritesOutput a s
-LeavesAt NoMemory a s = KeepsAll s ⊎ BeginsOutput a s
+LeavesAt WriteFault a s = HasBegun a s
+LeavesAt SinkFault a s = HasStored a s
+LeavesAt NoMemory a s = KeepsAll s ⊎ HasBegun a s
 
 -- what an answer leaves in the store
 abbrev pub Leaves : Status → Option Asked → Stored → Type 0
@@ -182,20 +171,14 @@ Leaves status (Some a) s = LeavesAt status a s
 
 -- ---- what an answer leaves in the sink
 
--- a file that the command rewrites
-pub record IsInput (a : Asked) (s : Stored) (b : List ℕ) : Type 0 where
-  pub held : Held s (input_of a) b
-  pub rewritable : IsRewritable b
-
 -- what want of memory may cut off: a message, or what is printed when the command is done
 pub data IsCutOff (a : Asked) (s : Stored) : List ℕ → Type 0 where
   OfMemory : IsCutOff a s memory_message
-  OfRead : IsReadFault s (input_of a) → IsCutOff a s (read_message (input_of a))
-  OfSize : InputIs a s IsOversized → IsCutOff a s (size_message (input_of a))
-  OfImage : (fault : ImageFault) → IsFaultyInput a s fault → IsCutOff a s (image_message fault)
-  OfRoom : (n : ℕ) → LacksRoomInput a s n → IsCutOff a s (room_message n)
-  OfWrite : IsWriteFault s (output_of a) → IsCutOff a s (write_message (output_of a))
-  OfDone : (b : List ℕ) → IsInput a s b → IsCutOff a s (text_of b)
+  OfRead : (name : List ℕ) → IsUnread a s name → IsCutOff a s (read_message name)
+  OfSize : (name : List ℕ) → IsFirstOversized s a.reads name → IsCutOff a s (size_message name)
+  OfDefect : (why : Defect) → IsLacking a s why → IsCutOff a s (defect_message why)
+  OfWrite : (name : List ℕ) → IsUnwritten a s name → IsCutOff a s (write_message name)
+  OfDone : (d : Delivery) → IsDelivery a s d → IsCutOff a s d.text
 
 -- without a command: the message, or where memory ran out a part of it or of the message that says so
 abbrev pub PrintsWithout : Status → Printed → Type 0
@@ -210,17 +193,25 @@ PrintsWithout WriteFault k = ⊥
 PrintsWithout SinkFault k = ⊥
 PrintsWithout NoMemory k = SaysPart k usage_message ⊎ SaysPart k memory_message
 
+-- the message of what the files lack, which has this answer
+abbrev pub SaysDefect : Status → Asked → Stored → Printed → Type 0
+SaysDefect status a s k = (why : Defect) × (defect_status why ≡ status) × IsLacking a s why × Says k (defect_message why)
+
+-- the message of the first file that is too large
+abbrev pub SaysSize : Asked → Stored → Printed → Type 0
+SaysSize a s k = (name : List ℕ) × IsFirstOversized s a.reads name × Says k (size_message name)
+
 -- at a command: the text, a part of it where the sink failed, the message, or a part of one where memory ran out
 abbrev pub PrintsAt : Status → Asked → Stored → Printed → Type 0
-PrintsAt Done a s k = (b : List ℕ) × IsInput a s b × SaysAll k (text_of b)
+PrintsAt Done a s k = (d : Delivery) × IsDelivery a s d × SaysAll k d.text
 PrintsAt Usage a s k = ⊥
-PrintsAt ReadFault a s k = Says k (read_message (input_of a))
-PrintsAt TooLarge a s k = Says k (size_message (input_of a))
-PrintsAt BadImage a s k = (fault : ImageFault) × IsFaultyInput a s fault × Says k (image_message fault)
-PrintsAt BadLog a s k = ⊥
-PrintsAt NoRoom a s k = (n : ℕ) × LacksRoomInput a s n × Says k (room_message n)
-PrintsAt WriteFault a s k = Says k (write_message (output_of a))
-PrintsAt SinkFault a s k = (b : List ℕ) × IsInput a s b × SaysPart k (text_of b)
+PrintsAt ReadFault a s k = (name : List ℕ) × IsUnread a s name × Says k (read_message name)
+PrintsAt TooLarge a s k = SaysSize a s k ⊎ SaysDefect TooLarge a s k
+PrintsAt BadImage a s k = SaysDefect BadImage a s k
+PrintsAt BadLog a s k = SaysDefect BadLog a s k
+PrintsAt NoRoom a s k = SaysDefect NoRoom a s k
+PrintsAt WriteFault a s k = (name : List ℕ) × IsUnwritten a s name × Says k (write_message name)
+PrintsAt SinkFault a s k = (d : Delivery) × IsDelivery a s d × SaysPart k d.text
 PrintsAt NoMemory a s k = (text : List ℕ) × IsCutOff a s text × SaysPart k text
 
 -- what an answer has printed
@@ -230,24 +221,22 @@ Prints status (Some a) s k = PrintsAt status a s k
 
 -- ---- what a command that is done has delivered
 
--- the input's bytes at entry, their one output under the output's name, and the three lines over those bytes
+-- over the bytes of the files that it read: the new file stands, and the text is printed
 pub record Delivered (a : Asked) (s : Stored) (k : Printed) : Type 0 where
-  pub b : List ℕ
-  pub x : List ℕ
-  pub held : Held s (input_of a) b
-  pub rewrites : Rewrites b x
-  pub stored : Holds s (output_of a) x
-  pub printed : SaysAll k (text_of b)
+  pub delivery : Delivery
+  pub is : IsDelivery a s delivery
+  pub stored : Stores s delivery.file
+  pub printed : SaysAll k delivery.text
 
 -- what Done has delivered; another answer delivers nothing
-abbrev pub Delivers : Status → Option Asked → Stored → Printed → Type 0
-Delivers Done asked s k = IsSomeAnd asked (λ a. Delivered a s k)
-Delivers Usage asked s k = Unit {0}
-Delivers ReadFault asked s k = Unit {0}
-Delivers TooLarge asked s k = Unit {0}
-Delivers BadImage asked s k = Unit {0}
-Delivers BadLog asked s k = Unit {0}
-Delivers NoRoom asked s k = Unit {0}
-Delivers WriteFault asked s k = Unit {0}
-Delivers SinkFault asked s k = Unit {0}
-Delivers NoMemory asked s k = Unit {0}
+abbrev pub DeliversAll : Status → Option Asked → Stored → Printed → Type 0
+DeliversAll Done asked s k = IsSomeAnd asked (λ a. Delivered a s k)
+DeliversAll Usage asked s k = Unit {0}
+DeliversAll ReadFault asked s k = Unit {0}
+DeliversAll TooLarge asked s k = Unit {0}
+DeliversAll BadImage asked s k = Unit {0}
+DeliversAll BadLog asked s k = Unit {0}
+DeliversAll NoRoom asked s k = Unit {0}
+DeliversAll WriteFault asked s k = Unit {0}
+DeliversAll SinkFault asked s k = Unit {0}
+DeliversAll NoMemory asked s k = Unit {0}

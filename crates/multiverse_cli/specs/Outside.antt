@@ -1,5 +1,5 @@
 -- What a run of the program did to the store and to the sink.
-use Rattle.std.specs.Prelude.{◌≡◌, ◌≢◌, ℕ, ◌++◌, ◌⊎◌, Bool, IsTrue, List, Option, Some}
+use Rattle.std.specs.Prelude.{◌≡◌, ◌≢◌, ℕ, ◌++◌, ◌⊎◌, Bool, IsTrue, List, Option, Some, IsSomeAnd}
 use Rattle.mv_base.specs.Appended.{AppendsPrefix}
 use Rattle.mv_base.specs.Faults.{Rose}
 use Rattle.mv_base.specs.declared.store.Store as store
@@ -58,6 +58,10 @@ pub record IsReadFault (s : Stored) (name : List ℕ) : Type 0 where
 pub record IsWriteFault (s : Stored) (name : List ℕ) : Type 0 where
   pub rose : Rose s.writes_before s.writes_after
   pub failed : s.failed ≡ name
+
+-- what is known of a name's bytes at entry, where the store tells
+abbrev pub HeldAs : Stored → List ℕ → (List ℕ → Type 0) → Type 0
+HeldAs s name fact = IsTrue s.tells → IsSomeAnd (s.before name) fact
 
 -- the sink's count of faults rose
 abbrev pub IsSinkFault : Printed → Type 0

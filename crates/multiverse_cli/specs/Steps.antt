@@ -1,5 +1,6 @@
 -- What the steps of a run have come to.
-use Rattle.std.specs.Prelude.{◌≡◌, ℕ, ◌≤◌, ◌⊎◌, IsTrue, List, length, Option, Some, None, Result, Ok, Err, Vec, IsSomeAnd}
+use Rattle.std.specs.Prelude.{◌≡◌, ℕ, ◌⊎◌, IsTrue, List, Contains, Option, Some, None, Result, Ok, Err, Vec}
+use Rattle.std.specs.Borrow.{Bor}
 use Rattle.std.specs.declared.alloc.Global.{Global}
 use Rattle.mv_base.specs.Holding.{KeepsOrBegins}
 use Rattle.mv_base.specs.declared.status.Status.{Status}
@@ -8,30 +9,32 @@ use Rattle.multiverse_cli.specs.declared.refusal.Refusal.{Refusal}
 use Rattle.multiverse_cli.specs.declared.refusal.Refusal.TheVariants as refusal
 use Rattle.multiverse_cli.specs.declared.failure.Failure.{Failure}
 use Rattle.multiverse_cli.specs.declared.failure.Failure.TheVariants as failure
-use Rattle.multiverse_cli.specs.Outside.{Stored, Printed, IsReadFault, IsWriteFault, IsSinkFault, KeepsAll, Held, Holds, SaysAll, SaysPart, Says}
+use Rattle.multiverse_cli.specs.Outside.{Stored, Printed, IsReadFault, IsWriteFault, IsSinkFault, KeepsAll, Held, Holds, HeldAs, SaysAll, SaysPart, Says}
 use Rattle.multiverse_cli.specs.Words.{Asked}
+use Rattle.multiverse_cli.specs.Commands.{Delivery}
 use Rattle.multiverse_cli.specs.Texts.{message_of, memory_message, status_of}
-use Rattle.multiverse_cli.specs.Answers.{size_limit, IsOversized, InputIs, IsFaultyInput, LacksRoomInput, input_of, output_of, WritesOutput, BeginsOutput, text_of}
+use Rattle.multiverse_cli.specs.Answers.{Fits, IsOversized, AreRead, IsFirstOversized, IsUnread, IsUnwritten, IsLacking, IsDelivery, Stores, HasBegun}
 
 -- a command was refused, for a reason that the store shows
 abbrev pub Refuses : Refusal → Asked → Stored → Type 0
 Refuses refusal.Usage a s = ⊥
-Refuses (refusal.ReadFault name) a s = (name.now ≡ input_of a) × IsReadFault s (input_of a) × KeepsAll s
-Refuses (refusal.TooLarge name) a s = (name.now ≡ input_of a) × InputIs a s IsOversized × KeepsAll s
-Refuses (refusal.BadImage fault) a s = IsFaultyInput a s fault × KeepsAll s
-Refuses (refusal.NoRoom n) a s = LacksRoomInput a s n × KeepsAll s
-Refuses (refusal.WriteFault name) a s = (name.now ≡ output_of a) × IsWriteFault s (output_of a) × BeginsOutput a s
+Refuses (refusal.ReadFault name) a s = IsUnread a s name.now × KeepsAll s
+Refuses (refusal.TooLarge name) a s = IsFirstOversized s a.reads name.now × KeepsAll s
+Refuses (refusal.Lacking why) a s = IsLacking a s why × KeepsAll s
+Refuses (refusal.WriteFault name) a s = IsUnwritten a s name.now × HasBegun a s
 
--- a command wrote its output, and has this text to print
+-- a command stored what it delivers, and has this text to print
 pub record IsCarriedOut (a : Asked) (s : Stored) (text : List ℕ) : Type 0 where
-  pub written : WritesOutput a s
-  pub text_is : text ≡ text_of written.b
+  pub delivery : Delivery
+  pub is : IsDelivery a s delivery
+  pub stored : Stores s delivery.file
+  pub text_is : text ≡ delivery.text
 
--- a command wrote its output, or was refused, or memory ran out
+-- a command stored what it delivers, or was refused, or memory ran out
 abbrev pub Carries : Result (Vec ℕ Global) Failure → Asked → Stored → Type 0
 Carries (Ok text) a s = IsCarriedOut a s text.items
 Carries (Err (failure.Refused why)) a s = Refuses why a s
-Carries (Err failure.NoMemory) a s = KeepsAll s ⊎ BeginsOutput a s
+Carries (Err failure.NoMemory) a s = KeepsAll s ⊎ HasBegun a s
 
 -- without a command, nothing was done but to refuse the words
 abbrev pub CarriesNothing : Result (Vec ℕ Global) Failure → Stored → Type 0
@@ -77,29 +80,39 @@ Reports answer (Ok text) k = PrintsText answer text.items k
 Reports answer (Err (failure.Refused why)) k = PrintsRefusal answer why k
 Reports answer (Err failure.NoMemory) k = (answer ≡ status.NoMemory) × SaysPart k memory_message
 
--- a file was not read: the store failed, or it holds too much
-abbrev pub IsUnread : Refusal → List ℕ → Stored → Type 0
-IsUnread refusal.Usage name s = ⊥
-IsUnread (refusal.ReadFault n) name s = (n.now ≡ name) × IsReadFault s name
-IsUnread (refusal.TooLarge n) name s = (n.now ≡ name) × (IsTrue s.tells → IsSomeAnd (s.before name) IsOversized)
-IsUnread (refusal.BadImage fault) name s = ⊥
-IsUnread (refusal.NoRoom size) name s = ⊥
-IsUnread (refusal.WriteFault n) name s = ⊥
-
--- a file was read whole, or why not
-abbrev pub ReadsFile : Result (Vec ℕ Global) Failure → List ℕ → Stored → Type 0
-ReadsFile (Ok bytes) name s = Held s name bytes.items × (length bytes.items ≤ size_limit)
-ReadsFile (Err (failure.Refused why)) name s = IsUnread why name s
+-- a file was read whole, or it has too many bytes, or why not
+abbrev pub ReadsFile : Result (Option (List ℕ)) Failure → List ℕ → Stored → Type 0
+ReadsFile (Ok (Some bytes)) name s = Held s name bytes × Fits bytes
+ReadsFile (Ok None) name s = HeldAs s name IsOversized
+ReadsFile (Err (failure.Refused refusal.Usage)) name s = ⊥
+ReadsFile (Err (failure.Refused (refusal.ReadFault n))) name s = (n.now ≡ name) × IsReadFault s name
+ReadsFile (Err (failure.Refused (refusal.TooLarge n))) name s = ⊥
+ReadsFile (Err (failure.Refused (refusal.Lacking why))) name s = ⊥
+ReadsFile (Err (failure.Refused (refusal.WriteFault n))) name s = ⊥
 ReadsFile (Err failure.NoMemory) name s = Unit {0}
 
+-- after some of the names: the bytes of all of them, or the first that is too large
+abbrev pub AreReadSoFar : Option (Bor (List ℕ)) → Stored → List (List ℕ) → List (List ℕ) → Type 0
+AreReadSoFar None s names files = AreRead s names files
+AreReadSoFar (Some n) s names files = IsFirstOversized s names n.now
+
+-- files were read whole, or why not
+abbrev pub ReadsFiles : Result (Vec (List ℕ) Global) Failure → List (List ℕ) → Stored → Type 0
+ReadsFiles (Ok files) names s = AreRead s names files.items
+ReadsFiles (Err (failure.Refused refusal.Usage)) names s = ⊥
+ReadsFiles (Err (failure.Refused (refusal.ReadFault n))) names s = Contains names n.now × IsReadFault s n.now
+ReadsFiles (Err (failure.Refused (refusal.TooLarge n))) names s = IsFirstOversized s names n.now
+ReadsFiles (Err (failure.Refused (refusal.Lacking why))) names s = ⊥
+ReadsFiles (Err (failure.Refused (refusal.WriteFault n))) names s = ⊥
+ReadsFiles (Err failure.NoMemory) names s = Unit {0}
+
 -- a file was not written: the store failed
-abbrev pub IsUnwritten : Refusal → List ℕ → Stored → Type 0
-IsUnwritten refusal.Usage name s = ⊥
-IsUnwritten (refusal.ReadFault n) name s = ⊥
-IsUnwritten (refusal.TooLarge n) name s = ⊥
-IsUnwritten (refusal.BadImage fault) name s = ⊥
-IsUnwritten (refusal.NoRoom size) name s = ⊥
-IsUnwritten (refusal.WriteFault n) name s = (n.now ≡ name) × IsWriteFault s name
+abbrev pub FailsToWrite : Refusal → List ℕ → Stored → Type 0
+FailsToWrite refusal.Usage name s = ⊥
+FailsToWrite (refusal.ReadFault n) name s = ⊥
+FailsToWrite (refusal.TooLarge n) name s = ⊥
+FailsToWrite (refusal.Lacking why) name s = ⊥
+FailsToWrite (refusal.WriteFault n) name s = (n.now ≡ name) × IsWriteFault s name
 
 -- where the store tells, a name holds what it held, or a part of the bytes
 abbrev pub HoldsPart : Stored → List ℕ → List ℕ → Type 0
@@ -108,5 +121,5 @@ HoldsPart s name bytes = IsTrue s.tells → KeepsOrBegins (s.before name) (s.aft
 -- a file was written whole, or a part of it, and why
 abbrev pub WritesFile : {A : Type 0} → Result A Failure → List ℕ → List ℕ → Stored → Type 0
 WritesFile (Ok _) name bytes s = Holds s name bytes
-WritesFile (Err (failure.Refused why)) name bytes s = IsUnwritten why name s × HoldsPart s name bytes
+WritesFile (Err (failure.Refused why)) name bytes s = FailsToWrite why name s × HoldsPart s name bytes
 WritesFile (Err failure.NoMemory) name bytes s = HoldsPart s name bytes

@@ -5,6 +5,8 @@ use Rattle.mv_base.specs.declared.status.Status.{Status}
 use Rattle.mv_base.specs.declared.status.Status.TheVariants as status
 use Rattle.elf32_read.specs.declared.fault.ImageFault.{ImageFault}
 use Rattle.elf32_read.specs.declared.fault.ImageFault.TheVariants.{ShortHeader, NotElf, NotElf32Little, NotI386, NotExecutable, BadVersion, BadSizes, HeaderCount, HeadersOutside, Interpreter, Dynamic, FileRange, MemorySmaller, AddressRange, NoPermission, WritableCode, NotCongruent, SharedPage, NoLoad, CodeTooLarge, HeadersFull}
+use Rattle.multiverse_cli.specs.declared.refusal.Defect.{Defect}
+use Rattle.multiverse_cli.specs.declared.refusal.Defect.TheVariants as defect
 use Rattle.multiverse_cli.specs.declared.refusal.Refusal.{Refusal}
 use Rattle.multiverse_cli.specs.declared.refusal.Refusal.TheVariants as refusal
 
@@ -92,6 +94,14 @@ size_message name = line (codes "multiverse: too large: " ++ name ++ codes " abo
 abbrev pub image_message : ImageFault → List ℕ
 image_message fault = line (codes "multiverse: bad image: " ++ fault_name fault ++ fault_place fault)
 
+-- the message that a log has a line that no log has
+abbrev pub log_message : ℕ → List ℕ
+log_message n = line (codes "multiverse: bad log: line " ++ decimal n)
+
+-- the message that so many bytes would be mapped
+abbrev pub mapped_message : ℕ → List ℕ
+mapped_message n = line (codes "multiverse: too large: mapped " ++ decimal n)
+
 -- the message that no place has room for a block of this size
 abbrev pub room_message : ℕ → List ℕ
 room_message size = line (codes "multiverse: no room: " ++ decimal size)
@@ -104,13 +114,25 @@ write_message name = line (codes "multiverse: cannot write " ++ name)
 abbrev pub memory_message : List ℕ
 memory_message = line (codes "multiverse: no memory")
 
+-- the message of what the files that are read lack, and the answer that it is
+abbrev pub defect_message : Defect → List ℕ
+defect_message (defect.BadImage fault) = image_message fault
+defect_message (defect.BadLog n) = log_message n
+defect_message (defect.TooLarge n) = mapped_message n
+defect_message (defect.NoRoom n) = room_message n
+
+abbrev pub defect_status : Defect → Status
+defect_status (defect.BadImage fault) = status.BadImage
+defect_status (defect.BadLog n) = status.BadLog
+defect_status (defect.TooLarge n) = status.TooLarge
+defect_status (defect.NoRoom n) = status.NoRoom
+
 -- the message of a refusal
 abbrev pub message_of : Refusal → List ℕ
 message_of refusal.Usage = usage_message
 message_of (refusal.ReadFault name) = read_message name.now
 message_of (refusal.TooLarge name) = size_message name.now
-message_of (refusal.BadImage fault) = image_message fault
-message_of (refusal.NoRoom size) = room_message size
+message_of (refusal.Lacking why) = defect_message why
 message_of (refusal.WriteFault name) = write_message name.now
 
 -- the answer that a refusal is
@@ -118,6 +140,5 @@ abbrev pub status_of : Refusal → Status
 status_of refusal.Usage = status.Usage
 status_of (refusal.ReadFault name) = status.ReadFault
 status_of (refusal.TooLarge name) = status.TooLarge
-status_of (refusal.BadImage fault) = status.BadImage
-status_of (refusal.NoRoom size) = status.NoRoom
+status_of (refusal.Lacking why) = defect_status why
 status_of (refusal.WriteFault name) = status.WriteFault

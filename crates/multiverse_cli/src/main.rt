@@ -1,11 +1,15 @@
-//! The program: a static executable in, its rewritten form out.
+//! The program: a static executable in, its rewritten form out, or the report of its run.
 //!
-//! - `words`: what the program is asked to do.
-//! - `carry`: doing it, over any store, up to the text that is printed.
+//! - `words`: what the program is asked to do. A command reads some files and has a task.
+//! - `verdict`: what comes of the bytes of these files, task by task: a text and perhaps a new file, or what they lack.
+//! - `carry`: reading, the verdict and writing, over any store, up to the text that is printed.
 //! - `refusal`, `failure`: why it is not done.
 //! - `texts`: what is printed, as bytes.
 //! - `report`: printing it, to any sink.
 //! - `run`: the whole, whose contract says what each answer means.
+//!
+//! A further command is a form of words, a task, its case in `verdict`, and a line each in the definitions of what a
+//! command lacks and delivers. Nothing else knows one command from another.
 //!
 //! `main` runs this over the files of the system and standard output, and ends with the answer's number.
 #![tactic(auto)]
@@ -21,6 +25,9 @@ mod run;
 #[cfg(test)]
 mod tests;
 mod texts;
+#[cfg(test)]
+mod trace_rows;
+mod verdict;
 mod words;
 
 use mv_base::{FileStore, Status, StdSink};

@@ -1,10 +1,37 @@
 //! Why a command is not done.
 
 ghost use Rattle.std.specs.Prelude.{◌≡◌};
-ghost use Rattle.multiverse_cli.specs.Texts.{status_of};
+ghost use Rattle.multiverse_cli.specs.Texts.{defect_status, status_of};
 
 use elf32_read::ImageFault;
 use mv_base::Status;
+
+/// Why nothing comes of the files that a command reads, in the order in which the reasons are looked for.
+#[derive(Clone, Copy, Drop)]
+pub enum Defect {
+    /// The image has this fault.
+    BadImage(ImageFault),
+    /// The log's first line that no log has, counted from 1.
+    BadLog(u64),
+    /// So many bytes of pages would be mapped while the image runs, which are more than are allowed.
+    TooLarge(u64),
+    /// The image's addresses have no room for the added block, which has this many bytes.
+    NoRoom(u64),
+}
+
+impl Defect {
+    /// The answer that this defect is.
+    fn status(&self) -> Status
+        ensures { result ≡ defect_status self.now }
+    {
+        match self {
+            Defect::BadImage(_) => Status::BadImage,
+            Defect::BadLog(_) => Status::BadLog,
+            Defect::TooLarge(_) => Status::TooLarge,
+            Defect::NoRoom(_) => Status::NoRoom,
+        }
+    }
+}
 
 /// Why a command is not done, in the order in which the reasons are looked for. Each has a message. A name is that of
 /// the file at fault.
@@ -16,10 +43,8 @@ pub enum Refusal<'a> {
     ReadFault(&'a str),
     /// The file has more bytes than the limit.
     TooLarge(&'a str),
-    /// The image has this fault.
-    BadImage(ImageFault),
-    /// The image's addresses have no room for the added block, which has this many bytes.
-    NoRoom(u64),
+    /// The files that are read lack something.
+    Lacking(Defect),
     /// The file could not be written.
     WriteFault(&'a str),
 }
@@ -33,8 +58,7 @@ impl Refusal<'_> {
             Refusal::Usage => Status::Usage,
             Refusal::ReadFault(_) => Status::ReadFault,
             Refusal::TooLarge(_) => Status::TooLarge,
-            Refusal::BadImage(_) => Status::BadImage,
-            Refusal::NoRoom(_) => Status::NoRoom,
+            Refusal::Lacking(defect) => defect.status(),
             Refusal::WriteFault(_) => Status::WriteFault,
         }
     }

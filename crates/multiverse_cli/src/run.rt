@@ -1,6 +1,6 @@
 //! The whole program over any store and any sink.
 
-ghost use Rattle.multiverse_cli.specs.Answers.{Comes, Delivers, FirstDue, Leaves, Prints};
+ghost use Rattle.multiverse_cli.specs.Answers.{Comes, DeliversAll, FirstDue, Leaves, Prints};
 ghost use Rattle.multiverse_cli.specs.Outside.{printed, stored};
 ghost use Rattle.multiverse_cli.specs.Words.{asked_of, texts};
 
@@ -8,22 +8,26 @@ use crate::carry::attempt;
 use crate::report::report;
 use mv_base::{Sink, Status, Store};
 use std::alloc::Global;
+use syscall_log::laws::one_log;
 
 /// Does what the words after the program's name ask for, over the files of `store`, prints to `out`, and gives the
 /// answer.
 ///
-/// The answers are looked for in the order Usage, ReadFault, TooLarge, BadImage, NoRoom, WriteFault, SinkFault, Done;
-/// NoMemory may come at any place. The clauses say when each comes, which one has to come, and what it leaves behind.
+/// The answers are looked for in the order Usage, ReadFault, TooLarge of a file, BadImage, BadLog, TooLarge of the bytes
+/// that a traced program maps, NoRoom, WriteFault, SinkFault, Done; NoMemory may come at any place. The clauses say when
+/// each comes, which one has to come, and what it leaves behind. All files of a command are read before any is judged.
 ///
 /// After Done of a rewrite the output simulates the input: while the input's steps are clear, it passes in order through a
 /// state that agrees after each, shows nothing else in between, and stops where the input stops. Bytes outside the known
 /// instructions stop the input as outside and the output by a fetch fault at the same address.
 ///
+/// After Done of a trace the report of the image, the log and the number of steps is printed, and no file has changed.
+///
 /// Where a store tells what it holds, the clauses speak of that. The files of the system tell nothing to a proof: for them
 /// the clauses keep counts, causes and order, and the rest holds since this is one function for every store.
 pub fn run<S: Store, K: Sink>(alloc: Global, words: &[String], store: &mut S, out: &mut K) -> Status
     // When an answer may come: a fault of the outside only where its count rose in this call, any other only where the
-    // words or the input's bytes are so.
+    // words or the bytes of the files that are read are so.
     ensures comes { Comes result (asked_of (texts words.now)) (stored S.Store store.old store.new)
         (printed K.Sink out.old out.new) }
     // Which answer has to come: the first that is due, and Done where none is; want of memory aside.
@@ -35,10 +39,12 @@ pub fn run<S: Store, K: Sink>(alloc: Global, words: &[String], store: &mut S, ou
     // What each answer has printed.
     ensures prints { Prints result (asked_of (texts words.now)) (stored S.Store store.old store.new)
         (printed K.Sink out.old out.new) }
-    // What Done has delivered, over the bytes that the input held at entry.
-    ensures delivers { Delivers result (asked_of (texts words.now))
+    // What Done has delivered, over the bytes that the files which are read held at entry.
+    ensures delivers { DeliversAll result (asked_of (texts words.now))
         (stored S.Store store.old store.new) (printed K.Sink out.old out.new) }
 {
+    // The files of a command have one verdict, since a text spells one log.
+    one_log();
     let outcome = attempt(alloc, words, store);
     report(alloc, outcome, out)
 }

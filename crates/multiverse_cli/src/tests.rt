@@ -28,48 +28,35 @@ const STUB: [u8; 91] = [
     0, 0x5a, 0x59, 0x58, 0x9d, 0x8b, 0x25, 8, 0x40, 0x10, 0, 0xff, 0x25, 4, 0x40, 0x10, 0,
 ];
 
-/// The slots behind it, each without the zeros at its end: a piece and a join.
-const SLOTS: [&[u8]; 10] = [
-    // mov eax,1
-    &[0xb8, 1, 0, 0, 0, 0xe9, 0x96, 0, 0, 0],
-    // add [eax],eax
-    &[1, 0, 0xe9, 0x39, 0, 0, 0],
-    // add [eax],al
-    &[0, 0, 0xe9, 0x39, 0, 0, 0],
-    // add [eax],al
-    &[0, 0, 0xe9, 0x39, 0, 0, 0],
-    // add [ebx+7],bh
-    &[0, 0xbb, 7, 0, 0, 0, 0xe9, 0x95, 0, 0, 0],
-    // mov ebx,7
-    &[0xbb, 7, 0, 0, 0, 0xe9, 0x76, 0, 0, 0],
-    // add [eax],al
-    &[0, 0, 0xe9, 0x39, 0, 0, 0],
-    // add [eax],al
-    &[0, 0, 0xe9, 0x39, 0, 0, 0],
-    // add ch,cl
-    &[0, 0xcd, 0xe9, 0xfd, 0x7e, 0xf4, 7],
-    // int 0x80
-    &[0xcd, 0x80, 0xe9, 0xde, 0x7e, 0xf4, 7],
+/// The five chains behind it: pieces, and a join at the end of each.
+const CHAINS: [u8; 55] = [
+    // mov eax,1; mov ebx,7; int 0x80
+    0xb8, 1, 0, 0, 0, 0xbb, 7, 0, 0, 0, 0xcd, 0x80, 0xe9, 0xf4, 0x7f, 0xf4, 7,
+    // add [eax],eax; add [eax],al
+    1, 0, 0, 0, 0xe9, 0xeb, 0xff, 0xff, 0xff, // add [eax],al; add [ebx+7],bh
+    0, 0, 0, 0xbb, 7, 0, 0, 0, 0xe9, 0xe3, 0xff, 0xff, 0xff, // add [eax],al; add ch,cl
+    0, 0, 0, 0xcd, 0xe9, 0xd4, 0x7f, 0xf4, 7, // add [eax],al
+    0, 0, 0xe9, 0xd3, 0xff, 0xff, 0xff,
 ];
 
 /// What stands in its table behind the page of zeros: the directory, and the first entries of the one page that it names,
 /// an address for each byte of code. All behind these is 0.
 const TABLE: [u8; 52] = [
-    4, 0x20, 0x10, 0, 0x5b, 0, 0x10, 0, 0x7b, 0, 0x10, 0, 0x9b, 0, 0x10, 0, 0xbb, 0, 0x10, 0, 0xdb,
-    0, 0x10, 0, 0xfb, 0, 0x10, 0, 0, 0, 0, 0, 0x1b, 1, 0x10, 0, 0x3b, 1, 0x10, 0, 0x5b, 1, 0x10, 0,
-    0x7b, 1, 0x10, 0, 0, 0, 0, 0,
+    4, 0x20, 0x10, 0, 0x5b, 0, 0x10, 0, 0x6c, 0, 0x10, 0, 0x75, 0, 0x10, 0, 0x6e, 0, 0x10, 0, 0x77,
+    0, 0x10, 0, 0x60, 0, 0x10, 0, 0, 0, 0, 0, 0x82, 0, 0x10, 0, 0x8b, 0, 0x10, 0, 0x84, 0, 0x10, 0,
+    0x65, 0, 0x10, 0, 0, 0, 0, 0,
 ];
 
 /// The frame record of its output, at 0x900.
 const RECORD: [u8; 76] = [
     0x4d, 0x56, 0x46, 0x52, 1, 0, 0, 0, 2, 0, 0, 0, 0x60, 0, 0, 0, 0, 0, 0x10, 0, 0, 0x50, 0, 0, 0,
-    0, 0x10, 0, 0x9b, 1, 0, 0, 0, 0x10, 0x10, 0, 4, 0x20, 0, 0, 0, 0x40, 0x10, 0, 0x40, 0, 0, 0,
+    0, 0x10, 0, 0x92, 0, 0, 0, 0, 0x10, 0x10, 0, 4, 0x20, 0, 0, 0, 0x40, 0x10, 0, 0x40, 0, 0, 0,
     0x40, 0x40, 0x10, 0, 0, 0, 0, 0, 4, 0x30, 0x10, 0, 1, 0, 0, 0, 0x54, 0x80, 4, 8, 0x0c, 0, 0, 0,
     0, 0x20, 0x10, 0,
 ];
 
 /// The words as the program gets them.
-fn strings(alloc: Global, words: &[&str]) -> Result<Vec<String>, Fail> {
+pub(crate) fn strings(alloc: Global, words: &[&str]) -> Result<Vec<String>, Fail> {
     let mut all = Vec::new(alloc);
     for word in words {
         all.push(String::from_str(alloc, word)?)?;
@@ -98,17 +85,6 @@ fn is_filled(part: &[u8], bytes: &[u8]) -> bool {
             .is_some_and(|rest| rest.iter().all(|byte| *byte == 0))
 }
 
-/// Whether code is the slots, of 32 bytes each, and then zeros.
-fn are_slots(code: &[u8]) -> bool {
-    for (number, slot) in code.chunks(32).enumerate() {
-        let bytes = SLOTS.get(number).map_or(&[][..], |bytes| *bytes);
-        if !is_filled(slot, bytes) {
-            return false;
-        }
-    }
-    code.len() >= 32 * SLOTS.len()
-}
-
 /// Whether the name holds the output of `IMAGE`.
 fn is_output(store: &MemStore, name: &str) -> bool {
     store.file(name).is_some_and(|held| {
@@ -125,7 +101,9 @@ fn is_output(store: &MemStore, name: &str) -> bool {
             && held
                 .get(0x2000..0x205b)
                 .is_some_and(|part| part == STUB.as_slice())
-            && held.get(0x205b..0x3000).is_some_and(are_slots)
+            && held
+                .get(0x205b..0x3000)
+                .is_some_and(|part| is_filled(part, &CHAINS))
             && held
                 .get(0x3000..0x4000)
                 .is_some_and(|part| is_filled(part, &[]))
@@ -181,7 +159,13 @@ fn refusals_say_why_and_change_nothing(rt: HostRuntime) -> Result<(), Fail> {
         usage(&["rewrite", "", "b"]),
         usage(&["rewrite", "a", "--b"]),
         usage(&["Rewrite", "a", "b"]),
-        usage(&["trace", "a", "b", "1"]),
+        usage(&["trace", "a", "b"]),
+        usage(&["trace", "a", "b", ""]),
+        usage(&["trace", "a", "b", "01"]),
+        usage(&["trace", "a", "b", "+1"]),
+        usage(&["trace", "a", "b", "1", "1"]),
+        usage(&["trace", "a", "b", "18446744073709551616"]),
+        usage(&["trace", "a", "--b", "1"]),
         Case {
             fail_print: 1,
             printed: "",
@@ -268,17 +252,17 @@ fn output_that_fails_is_old_or_whole(rt: HostRuntime) -> Result<(), Fail> {
 
 /// A program header, whose two addresses are one.
 #[derive(Clone, Copy)]
-struct Header {
-    kind: u32,
-    offset: u32,
-    vaddr: u32,
-    filesz: u32,
-    memsz: u32,
-    flags: u32,
+pub(crate) struct Header {
+    pub(crate) kind: u32,
+    pub(crate) offset: u32,
+    pub(crate) vaddr: u32,
+    pub(crate) filesz: u32,
+    pub(crate) memsz: u32,
+    pub(crate) flags: u32,
 }
 
 /// Maps the code behind two headers.
-const CODE_AT_TWO: Header = Header {
+pub(crate) const CODE_AT_TWO: Header = Header {
     kind: 1,
     offset: 0x74,
     vaddr: 0x0804_8074,
@@ -310,9 +294,17 @@ const ZEROS_EVERYWHERE: Header = Header {
     ..ZEROS
 };
 
-/// An image with so many headers, these first and then empty ones, with the code of `IMAGE` behind them.
-fn image_of(alloc: Global, headers: &[Header], count: u16) -> Result<Vec<u8>, Fail> {
-    let mut bytes = IMAGE[..44].to_vec(alloc)?;
+/// An image with this entry and so many headers, these first and then empty ones, with the code behind them.
+pub(crate) fn image_of(
+    alloc: Global,
+    entry: u32,
+    headers: &[Header],
+    count: u16,
+    code: &[u8],
+) -> Result<Vec<u8>, Fail> {
+    let mut bytes = IMAGE[..24].to_vec(alloc)?;
+    bytes.extend_from_slice(&entry.to_le_bytes())?;
+    bytes.extend_from_slice(&IMAGE[28..44])?;
     bytes.extend_from_slice(&count.to_le_bytes())?;
     bytes.extend_from_slice(&IMAGE[46..52])?;
     for header in headers {
@@ -329,7 +321,7 @@ fn image_of(alloc: Global, headers: &[Header], count: u16) -> Result<Vec<u8>, Fa
         }
     }
     bytes.resize(52 + 32 * usize::from(count), 0)?;
-    bytes.extend_from_slice(&IMAGE[84..])?;
+    bytes.extend_from_slice(code)?;
     Ok(bytes)
 }
 
@@ -368,7 +360,7 @@ const fn done(headers: &'static [Header], printed: &'static str, output: usize) 
 
 fn check_row(rt: &(impl AllocGlobal + Abort), words: &[String], row: &Row) -> Result<(), Fail> {
     let alloc = rt.alloc();
-    let mut image = image_of(alloc, row.headers, row.count)?;
+    let mut image = image_of(alloc, 0x0804_8054, row.headers, row.count, &IMAGE[84..])?;
     image.truncate(row.kept);
     let mut store = store_of(alloc, image.as_slice(), 0, 0)?;
     let mut out = MemSink::new(alloc, Vec::new(alloc))?;
@@ -387,7 +379,7 @@ fn check_row(rt: &(impl AllocGlobal + Abort), words: &[String], row: &Row) -> Re
 }
 
 /// Maps the code behind one header, at the address that `IMAGE` has, but doesn't let it run.
-const DATA_AT_ONE: Header = Header {
+pub(crate) const DATA_AT_ONE: Header = Header {
     offset: 0x54,
     vaddr: 0x0804_8054,
     flags: 4,
@@ -401,7 +393,7 @@ const WRITABLE_CODE: Header = Header {
 };
 
 /// Maps one byte of code more than is rewritten.
-const LARGE_CODE: Header = Header {
+pub(crate) const LARGE_CODE: Header = Header {
     memsz: 0x0040_0001,
     ..CODE_AT_TWO
 };

@@ -1,9 +1,9 @@
 //! The texts that the program prints. They are this project's own; each line ends with a line feed.
 
-ghost use Rattle.std.specs.Prelude.{◌≡◌, ◌++◌, IfOk, OnOk, codes};
-ghost use Rattle.multiverse_cli.specs.Texts.{added_line, count_line, fault_name as fault_name_of, fault_place, image_message, line, memory_message, message_of, rewritten_text as rewritten_text_of, room_message};
+ghost use Rattle.std.specs.Prelude.{◌≡◌, ◌++◌, IfOk, OnOk, codes, decimal};
+ghost use Rattle.multiverse_cli.specs.Texts.{added_line, count_line, defect_message, fault_name as fault_name_of, fault_place, image_message, line, memory_message, message_of, rewritten_text as rewritten_text_of};
 
-use crate::refusal::Refusal;
+use crate::refusal::{Defect, Refusal};
 use elf32_read::ImageFault;
 use mv_base::{NoMemory, put_decimal, put_hex8};
 use mv_rewrite::Rewritten;
@@ -63,9 +63,20 @@ pub fn message(alloc: Global, refusal: &Refusal<'_>) -> Result<Vec<u8>, NoMemory
         Refusal::TooLarge(name) => {
             name_line(alloc, "multiverse: too large: ", name, " above 67108864")
         }
-        Refusal::BadImage(fault) => fault_line(alloc, fault),
-        Refusal::NoRoom(size) => room_line(alloc, *size),
+        Refusal::Lacking(defect) => defect_line(alloc, defect),
         Refusal::WriteFault(name) => name_line(alloc, "multiverse: cannot write ", name, ""),
+    }
+}
+
+/// The message of what the files lack that are read.
+fn defect_line(alloc: Global, defect: &Defect) -> Result<Vec<u8>, NoMemory>
+    ensures { IfOk result (λ text. text.items ≡ defect_message defect.now) }
+{
+    match defect {
+        Defect::BadImage(fault) => fault_line(alloc, fault),
+        Defect::BadLog(line) => number_line(alloc, "multiverse: bad log: line ", *line),
+        Defect::TooLarge(size) => number_line(alloc, "multiverse: too large: mapped ", *size),
+        Defect::NoRoom(size) => number_line(alloc, "multiverse: no room: ", *size),
     }
 }
 
@@ -93,13 +104,13 @@ fn fault_line(alloc: Global, fault: &ImageFault) -> Result<Vec<u8>, NoMemory>
     Ok(text)
 }
 
-/// The line that no place has room for a block of this many bytes.
-fn room_line(alloc: Global, size: u64) -> Result<Vec<u8>, NoMemory>
-    ensures { IfOk result (λ text. text.items ≡ room_message size) }
+/// The line of a number behind a text.
+fn number_line(alloc: Global, before: &str, number: u64) -> Result<Vec<u8>, NoMemory>
+    ensures { IfOk result (λ text. text.items ≡ line (before.now ++ decimal number)) }
 {
     let mut text = Vec::new(alloc);
-    text.extend_from_slice(b"multiverse: no room: ")?;
-    put_decimal(size, &mut text)?;
+    text.extend_from_slice(before.as_bytes())?;
+    put_decimal(number, &mut text)?;
     text.push(b'\n')?;
     Ok(text)
 }

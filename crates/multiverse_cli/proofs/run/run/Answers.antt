@@ -7,7 +7,7 @@ pub returns-clause-comes : goal.returns-clause-comes
 returns-clause-comes g c = comes-of _ _ _ _ _ c.attempt-outcome.ensures c.report.ensures
 
 pub returns-clause-first_due : goal.returns-clause-first_due
-returns-clause-first_due g c = due-of _ _ _ _ (comes-of _ _ _ _ _ c.attempt-outcome.ensures c.report.ensures)
+returns-clause-first_due g c = due-of c.one_log.ensures _ _ _ _ (comes-of _ _ _ _ _ c.attempt-outcome.ensures c.report.ensures)
 
 pub returns-clause-leaves : goal.returns-clause-leaves
 returns-clause-leaves g c = leaves-of _ _ _ _ _ c.attempt-outcome.ensures c.report.ensures

@@ -1,0 +1,131 @@
+-- Over the same files a command has one verdict.
+use Rattle.std.proofs.Common.{◌≡◌, ℕ, List, [], ◌∷◌, Option, Some, None, IsSome, is_some, false, Ok, Err, refl, sym, ◌∙◌, ap, subst, subst₂}
+use Rattle.std.specs.Option.{option_map}
+use Rattle.elf32_read.specs.declared.fault.ImageFault.{ImageFault}
+use Rattle.mv_rewrite.specs.Layout.{base_of}
+use Rattle.syscall_log.specs.declared.answer.Answer.{Answer}
+use Rattle.syscall_log.specs.declared.log.Log.{Log}
+use Rattle.syscall_log.specs.Faults.{IsBadLine}
+use Rattle.syscall_log.specs.Grammar.{text_of as log_text}
+use Rattle.syscall_log.specs.Rules.{IsLog, IsLog-prop}
+use Rattle.trace_run.specs.declared.tracing.TraceFault.TheVariants as tracing
+use Rattle.trace_run.specs.Reports.{IsBeyond}
+use Rattle.trace_run.specs.laws.OneTrace.{one_outcome}
+use Rattle.multiverse_cli.specs.declared.refusal.Defect.{Defect}
+use Rattle.multiverse_cli.specs.declared.refusal.Defect.TheVariants.{BadImage, BadLog, TooLarge, NoRoom}
+use Rattle.multiverse_cli.specs.Commands.{NewFile, Delivery, IsRewritable, IsNotRewritten, IsNotTraced, IsTracing, Lacks, Delivers}
+use Rattle.multiverse_cli.specs.Texts.{defect_status}
+use Rattle.multiverse_cli.specs.Words.{Work, ToRewrite, ToTrace, output_of}
+
+-- a value that isn't there is none
+absent : {A : Type 0} (o : Option A) → o ≡ None → IsSome o → ⊥
+absent o e h = let none : is_some o ≡ false = ap is_some e in cc
+
+-- a first fault that is there, and none
+fault-none : (o : Option ImageFault) (fault : ImageFault) → o ≡ None → o ≡ Some fault → ⊥
+fault-none o fault none some = let e : None ≡ Some fault = sym none ∙ some in cc
+
+-- ---- rewrite
+
+rewrite-one : (b : List ℕ) (why other : Defect) → IsNotRewritten b why → IsNotRewritten b other → defect_status why ≡ defect_status other
+rewrite-one b (BadImage f) (BadImage g) h k = refl
+rewrite-one b (BadImage f) (BadLog n) h k = absurd k
+rewrite-one b (BadImage f) (TooLarge n) h k = absurd k
+rewrite-one b (BadImage f) (NoRoom n) h k = absurd (fault-none _ f k.whole h)
+rewrite-one b (BadLog n) other h k = absurd h
+rewrite-one b (TooLarge n) other h k = absurd h
+rewrite-one b (NoRoom n) (BadImage f) h k = absurd (fault-none _ f h.whole k)
+rewrite-one b (NoRoom n) (BadLog m) h k = absurd k
+rewrite-one b (NoRoom n) (TooLarge m) h k = absurd k
+rewrite-one b (NoRoom n) (NoRoom m) h k = refl
+
+rewrite-clash : (b : List ℕ) (why : Defect) → IsNotRewritten b why → IsRewritable b → ⊥
+rewrite-clash b (BadImage f) h k = fault-none _ f k.sound h
+rewrite-clash b (BadLog n) h k = h
+rewrite-clash b (TooLarge n) h k = h
+rewrite-clash b (NoRoom n) h k = absent (base_of b) h.full k.room
+
+-- ---- trace
+
+-- a text that is a log's has no bad line
+log-clash : (l : List ℕ) (line : ℕ) (log : Log) → IsBadLine l line → l ≡ log_text log.args log.answers → ⊥
+log-clash l line log bad spelled =
+    bad.no_log (record { args = log.args; answers = log.answers; is_log = log.bounds; is_text = spelled })
+
+trace-one :
+    (steps : ℕ) (b l : List ℕ) (why other : Defect) → IsNotTraced steps b l why → IsNotTraced steps b l other
+    → defect_status why ≡ defect_status other
+trace-one steps b l (BadImage f) (BadImage g) h k = refl
+trace-one steps b l (BadImage f) (BadLog n) h k = absurd (fault-none _ f k.sound h)
+trace-one steps b l (BadImage f) (TooLarge n) h k = absurd (fault-none _ f k.traceable.sound h)
+trace-one steps b l (BadImage f) (NoRoom n) h k = absurd k
+trace-one steps b l (BadLog n) (BadImage f) h k = absurd (fault-none _ f h.sound k)
+trace-one steps b l (BadLog n) (BadLog m) h k = refl
+trace-one steps b l (BadLog n) (TooLarge m) h k = absurd (log-clash l n k.log h.bad k.traceable.spelled)
+trace-one steps b l (BadLog n) (NoRoom m) h k = absurd k
+trace-one steps b l (TooLarge n) (BadImage f) h k = absurd (fault-none _ f h.traceable.sound k)
+trace-one steps b l (TooLarge n) (BadLog m) h k = absurd (log-clash l m h.log k.bad h.traceable.spelled)
+trace-one steps b l (TooLarge n) (TooLarge m) h k = refl
+trace-one steps b l (TooLarge n) (NoRoom m) h k = absurd k
+trace-one steps b l (NoRoom n) other h k = absurd h
+
+-- a text spells one log
+abbrev pub SpellsOne : Type 0
+SpellsOne =
+    (args args' : List (List ℕ)) (answers answers' : List Answer) → IsLog args answers → IsLog args' answers'
+    → log_text args answers ≡ log_text args' answers' → (args ≡ args') × (answers ≡ answers')
+
+-- what holds of a log holds of a log with the same text
+same-log : SpellsOne → (x y : Log) (P : Log → Type 0) → log_text x.args x.answers ≡ log_text y.args y.answers → P x → P y
+same-log one x y P e h =
+    let parts = one x.args y.args x.answers y.answers x.bounds y.bounds e in
+    let Q : List (List ℕ) → List Answer → Type 0 =
+    λ args answers. (keeps : IsLog args answers) → P (record { args = args; answers = answers; bounds = keeps }) in
+    let R : IsLog x.args x.answers → Type 0 = λ keeps. P (record { args = x.args; answers = x.answers; bounds = keeps }) in
+    let here : Q x.args x.answers = λ keeps. subst R (IsLog-prop x.args x.answers x.bounds keeps) h in
+    subst₂ Q parts.0 parts.1 here y.bounds
+
+trace-clash : SpellsOne → (steps : ℕ) (b l : List ℕ) (why : Defect) (d : Delivery) → IsNotTraced steps b l why → IsTracing steps b l d → ⊥
+trace-clash one steps b l (BadImage f) d h k = fault-none _ f k.traceable.sound h
+trace-clash one steps b l (BadLog n) d h k = log-clash l n k.log h.bad k.traceable.spelled
+trace-clash one steps b l (TooLarge n) d h k =
+    let P : Log → Type 0 = λ log. IsBeyond b log steps n in
+    one_outcome b k.log steps (Ok k.report) (Err (tracing.TooLarge n)) k.reports
+    (same-log one h.log k.log P (sym h.traceable.spelled ∙ k.traceable.spelled) h.beyond)
+trace-clash one steps b l (NoRoom n) d h k = h
+
+-- ---- all commands
+
+-- two defects have one answer
+pub one-defect :
+    (w : Work) (files : List (List ℕ)) (why other : Defect) → Lacks w files why → Lacks w files other
+    → defect_status why ≡ defect_status other
+one-defect (ToRewrite output) [] why other h k = absurd h
+one-defect (ToRewrite output) (b ∷ []) why other h k = rewrite-one b why other h k
+one-defect (ToRewrite output) (b ∷ c ∷ files) why other h k = absurd h
+one-defect (ToTrace steps) [] why other h k = absurd h
+one-defect (ToTrace steps) (b ∷ []) why other h k = absurd h
+one-defect (ToTrace steps) (b ∷ l ∷ []) why other h k = trace-one steps b l why other h k
+one-defect (ToTrace steps) (b ∷ l ∷ c ∷ files) why other h k = absurd h
+
+-- files that lack something have nothing that is delivered over them
+pub defect-clash : SpellsOne → (w : Work) (files : List (List ℕ)) (why : Defect) (d : Delivery) → Lacks w files why → Delivers w files d → ⊥
+defect-clash one (ToRewrite output) [] why d h k = h
+defect-clash one (ToRewrite output) (b ∷ []) why d h k = rewrite-clash b why h k.rewrites.rewritable
+defect-clash one (ToRewrite output) (b ∷ c ∷ files) why d h k = h
+defect-clash one (ToTrace steps) [] why d h k = h
+defect-clash one (ToTrace steps) (b ∷ []) why d h k = h
+defect-clash one (ToTrace steps) (b ∷ l ∷ []) why d h k = trace-clash one steps b l why d h k
+defect-clash one (ToTrace steps) (b ∷ l ∷ c ∷ files) why d h k = h
+
+-- the file that is delivered has the name that the command writes
+pub output-named :
+    (w : Work) (files : List (List ℕ)) (d : Delivery) (f : NewFile) → Delivers w files d → d.file ≡ Some f
+    → output_of w ≡ Some f.name
+output-named (ToRewrite output) [] d f h e = absurd h
+output-named (ToRewrite output) (b ∷ []) d f h e = ap (option_map (λ g. g.name)) (sym h.file_is ∙ e)
+output-named (ToRewrite output) (b ∷ c ∷ files) d f h e = absurd h
+output-named (ToTrace steps) [] d f h e = absurd h
+output-named (ToTrace steps) (b ∷ []) d f h e = absurd h
+output-named (ToTrace steps) (b ∷ l ∷ []) d f h e = let clash : None ≡ Some f = sym h.file_is ∙ e in cc
+output-named (ToTrace steps) (b ∷ l ∷ c ∷ files) d f h e = absurd h

@@ -1,0 +1,114 @@
+-- What each command makes of the files that it reads. This project's own.
+use Rattle.std.specs.Prelude.{◌≡◌, ℕ, List, [], ◌∷◌, length, Option, Some, None, IsSome, unwrap_or}
+use Rattle.elf32_read.specs.Faults.{refusal, load_refusal}
+use Rattle.elf32_write.specs.Frame.{Frame}
+use Rattle.simulation_laws.specs.Stopping.{Simulates}
+use Rattle.mv_rewrite.specs.Sites.{sites}
+use Rattle.mv_rewrite.specs.Layout.{base_of, size}
+use Rattle.mv_rewrite.specs.Output.{output}
+use Rattle.mv_rewrite.specs.OutputFile.{IsWrittenFor}
+use Rattle.mv_rewrite.specs.Rewriting.{LacksRoom}
+use Rattle.syscall_log.specs.declared.log.Log.{Log}
+use Rattle.syscall_log.specs.Faults.{IsBadLine}
+use Rattle.syscall_log.specs.Grammar.{text_of as log_text}
+use Rattle.trace_run.specs.declared.report.Report.{Report}
+use Rattle.trace_run.specs.Reports.{IsReport, IsBeyond}
+use Rattle.trace_run.specs.Texts.{text_of as report_text}
+use Rattle.multiverse_cli.specs.declared.refusal.Defect.{Defect}
+use Rattle.multiverse_cli.specs.declared.refusal.Defect.TheVariants.{BadImage, BadLog, TooLarge, NoRoom}
+use Rattle.multiverse_cli.specs.Texts.{rewritten_text}
+use Rattle.multiverse_cli.specs.Words.{Work, ToRewrite, ToTrace}
+
+-- a file that a command writes
+pub record NewFile : Type 0 where
+  pub name : List ℕ
+  pub bytes : List ℕ
+
+-- what a command delivers: a text that is printed, and the file that it writes, if any
+pub record Delivery : Type 0 where
+  pub text : List ℕ
+  pub file : Option NewFile
+
+-- ---- rewrite
+
+-- a file that is rewritten: it has no fault, and its addresses have room
+pub record IsRewritable (b : List ℕ) : Type 0 where
+  pub sound : refusal b ≡ None
+  pub room : IsSome (base_of b)
+
+-- a file that is rewritten, and its one output, which simulates it: while the file completes steps that are clear of
+-- the added addresses and of changes to its code, the output passes in order through a state that agrees after each
+-- one, shows nothing in between, and stops where the file stops (by a fetch fault at the same address, where the file
+-- meets bytes that are no instruction); and it is what is written for the file: an image with a frame, in which the
+-- file, its code, the table and the private area stand and load so
+pub record Rewrites (b x : List ℕ) : Type 0 where
+  pub rewritable : IsRewritable b
+  pub output_is : output b ≡ Some x
+  pub simulates : Simulates b x
+  pub written : (f : Frame) × IsWrittenFor b x f
+
+-- what is printed of a file that is rewritten: the number of its sites, the added addresses, and no counter
+abbrev pub sites_text : List ℕ → List ℕ
+sites_text b = rewritten_text (length (sites b)) (unwrap_or (base_of b) 0) (size b) 0
+
+-- why a file is not rewritten: its first fault, or no room for its block, which has this size
+abbrev pub IsNotRewritten : List ℕ → Defect → Type 0
+IsNotRewritten b (BadImage fault) = refusal b ≡ Some fault
+IsNotRewritten b (BadLog line) = ⊥
+IsNotRewritten b (TooLarge n) = ⊥
+IsNotRewritten b (NoRoom n) = LacksRoom b n
+
+-- the one output of a file is written, and three lines are printed
+pub record IsRewriting (output b : List ℕ) (d : Delivery) : Type 0 where
+  pub bytes : List ℕ
+  pub rewrites : Rewrites b bytes
+  pub text_is : d.text ≡ sites_text b
+  pub file_is : d.file ≡ Some (record { name = output; bytes = bytes })
+
+-- ---- trace
+
+-- a log that a file spells, where the image has none of the first 19 faults
+pub record IsTraceable (b l : List ℕ) (log : Log) : Type 0 where
+  pub sound : load_refusal b ≡ None
+  pub spelled : l ≡ log_text log.args log.answers
+
+-- a line that no log has, where the image has none of these faults
+pub record HasBadLine (b l : List ℕ) (line : ℕ) : Type 0 where
+  pub sound : load_refusal b ≡ None
+  pub bad : IsBadLine l line
+
+-- so many bytes would be mapped, at the start or by a map of a step that is tried, which are too many
+pub record MapsTooMuch (steps : ℕ) (b l : List ℕ) (n : ℕ) : Type 0 where
+  pub log : Log
+  pub traceable : IsTraceable b l log
+  pub beyond : IsBeyond b log steps n
+
+-- why an image is not traced: the first of its faults 1 to 19, the first bad line of the log, or too many mapped bytes
+abbrev pub IsNotTraced : ℕ → List ℕ → List ℕ → Defect → Type 0
+IsNotTraced steps b l (BadImage fault) = load_refusal b ≡ Some fault
+IsNotTraced steps b l (BadLog line) = HasBadLine b l line
+IsNotTraced steps b l (TooLarge n) = MapsTooMuch steps b l n
+IsNotTraced steps b l (NoRoom n) = ⊥
+
+-- the report of the image, the log and the number of steps is printed, and no file is written
+pub record IsTracing (steps : ℕ) (b l : List ℕ) (d : Delivery) : Type 0 where
+  pub log : Log
+  pub traceable : IsTraceable b l log
+  pub report : Report
+  pub reports : IsReport b log steps report
+  pub text_is : d.text ≡ report_text report
+  pub file_is : d.file ≡ None
+
+-- ---- all commands
+
+-- why nothing is delivered over the bytes of the files that are read
+abbrev pub Lacks : Work → List (List ℕ) → Defect → Type 0
+Lacks (ToRewrite output) (b ∷ []) why = IsNotRewritten b why
+Lacks (ToTrace steps) (b ∷ l ∷ []) why = IsNotTraced steps b l why
+Lacks work inputs why = ⊥
+
+-- what is delivered over the bytes of the files that are read
+abbrev pub Delivers : Work → List (List ℕ) → Delivery → Type 0
+Delivers (ToRewrite output) (b ∷ []) d = IsRewriting output b d
+Delivers (ToTrace steps) (b ∷ l ∷ []) d = IsTracing steps b l d
+Delivers work inputs d = ⊥
