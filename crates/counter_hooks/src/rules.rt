@@ -1,0 +1,58 @@
+//! Rules: which sites are counted.
+
+ghost use Rattle.std.specs.Prelude.{◌≡◌, IfOk};
+ghost use Rattle.counter_hooks.specs.Rules.{IsAscending, picked as is_picked};
+
+use mv_base::{Addrs, NoMemory};
+use std::alloc::Global;
+use superset::Site;
+use x86_insn::Flow;
+
+/// Which sites are counted: none, all, those of one kind of flow, or those at listed addresses.
+#[derive(Debug, Drop)]
+pub enum Rule {
+    None,
+    All,
+    /// Direct calls, and calls through an operand.
+    Calls,
+    Returns,
+    /// Branches on a condition, and LOOP and its kin and JECXZ.
+    Branches,
+    /// INT 0x80.
+    System,
+    At(Addrs),
+}
+
+impl Rule {
+    /// The same rule once more. The error is want of memory.
+    pub fn copied(&self, alloc: Global) -> Result<Rule, NoMemory>
+        ensures { IfOk result (λ rule. rule ≡ self.now) }
+    {
+        Ok(match self {
+            Rule::None => Rule::None,
+            Rule::All => Rule::All,
+            Rule::Calls => Rule::Calls,
+            Rule::Returns => Rule::Returns,
+            Rule::Branches => Rule::Branches,
+            Rule::System => Rule::System,
+            Rule::At(addresses) => Rule::At(Addrs::new(addresses.as_slice().to_vec(alloc)?)),
+        })
+    }
+}
+
+/// Whether a rule picks a site. The addresses of a list strictly ascend.
+pub fn picked(rule: &Rule, site: &Site) -> bool
+    requires { IsAscending rule.now }
+    ensures { result ≡ is_picked rule.now site.now }
+{
+    let flow = site.insn.next_kind();
+    match rule {
+        Rule::None => false,
+        Rule::All => true,
+        Rule::Calls => matches!(flow, Flow::Call | Flow::CallVia),
+        Rule::Returns => matches!(flow, Flow::Return),
+        Rule::Branches => matches!(flow, Flow::Branch | Flow::Count),
+        Rule::System => matches!(flow, Flow::System),
+        Rule::At(addresses) => addresses.as_slice().binary_search(&site.at).is_ok(),
+    }
+}
