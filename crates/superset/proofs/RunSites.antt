@@ -1,6 +1,7 @@
 -- The sites of runs are those of each run by itself.
 use Rattle.std.proofs.Common.{◌≡◌, ℕ, zero, suc, ◌+◌, ◌-◌, ◌<◌, ◌≤◌, List, [], ◌∷◌, ◌++◌, length, min, take, drop, get_or, Option, Some, None, refl, sym, ap, ◌∙◌, subst, arith}
-use Rattle.std.specs.List.{filter_map, flat_map, range_with_len}
+use Rattle.std.specs.Prelude.{option_to_list}
+use Rattle.std.specs.List.{filter_map, flat_map, range_with_len, cons_option}
 use Rattle.std.proofs.lemmas.List.{append-nil, append_assoc, take_min, take_rest}
 use Rattle.std.proofs.lemmas.List.Elements.{filter_map-append}
 use Rattle.std.proofs.lemmas.Option.{slice_get-get_or, slice_get_past}
@@ -67,16 +68,15 @@ front_of_tail ys xs k n e h =
     ap (λ (m : ℕ). take m tail) h ∙ take_min 15 tail ∙ ap (take 15) (take_rest ys k ∙ ap (drop k) e)
 
 -- the sites of one more address
-pub filter_more : (f : ℕ → Option Site) (lo n : ℕ) (o : Option Site) → f (lo + n) ≡ o → filter_map f (range_with_len lo (n + 1)) ≡ filter_map f (range_with_len lo n) ++ filter_map f ((lo + n) ∷ [])
-filter_more f lo n o e = ap (filter_map f) (range_more n lo) ∙ filter_map-append f (range_with_len lo n) ((lo + n) ∷ [])
+filter_more : (f : ℕ → Option Site) (lo n : ℕ) → filter_map f (range_with_len lo (n + 1)) ≡ filter_map f (range_with_len lo n) ++ filter_map f ((lo + n) ∷ [])
+filter_more f lo n = ap (filter_map f) (range_more n lo) ∙ filter_map-append f (range_with_len lo n) ((lo + n) ∷ [])
 
-pub none_more : (f : ℕ → Option Site) (lo n : ℕ) (new old : List Site) → f (lo + n) ≡ None → new ≡ old ++ filter_map f (range_with_len lo n) → new ≡ old ++ filter_map f (range_with_len lo (n + 1))
-none_more f lo n new old e h =
-    let one : filter_map f ((lo + n) ∷ []) ≡ [] = rw e refl in
-    h ∙ ap (λ (t : List Site). old ++ t) (sym (filter_more f lo n None e ∙ ap (λ (t : List Site). filter_map f (range_with_len lo n) ++ t) one ∙ append-nil (filter_map f (range_with_len lo n))))
+site_alone : (o : Option Site) → cons_option o [] ≡ option_to_list o
+site_alone None = refl
+site_alone (Some s) = refl
 
-pub some_more : (f : ℕ → Option Site) (lo n : ℕ) (new now old : List Site) (s : Site) → f (lo + n) ≡ Some s → now ≡ old ++ filter_map f (range_with_len lo n) → new ≡ now ++ s ∷ [] → new ≡ old ++ filter_map f (range_with_len lo (n + 1))
-some_more f lo n new now old s e h p =
-    let one : filter_map f ((lo + n) ∷ []) ≡ s ∷ [] = rw e refl in
-    p ∙ ap (λ (t : List Site). t ++ s ∷ []) h ∙ append_assoc old (filter_map f (range_with_len lo n)) (s ∷ [])
-    ∙ ap (λ (t : List Site). old ++ t) (sym (filter_more f lo n (Some s) e ∙ ap (λ (t : List Site). filter_map f (range_with_len lo n) ++ t) one))
+pub site_more : (f : ℕ → Option Site) (lo n : ℕ) (new now old : List Site) → now ≡ old ++ filter_map f (range_with_len lo n) → new ≡ now ++ option_to_list (f (lo + n)) → new ≡ old ++ filter_map f (range_with_len lo (n + 1))
+site_more f lo n new now old h p =
+    p ∙ ap (λ (t : List Site). t ++ option_to_list (f (lo + n))) h ∙ append_assoc old (filter_map f (range_with_len lo n)) (option_to_list (f (lo + n)))
+    ∙ ap (λ (t : List Site). old ++ (filter_map f (range_with_len lo n) ++ t)) (sym (site_alone (f (lo + n))))
+    ∙ ap (λ (t : List Site). old ++ t) (sym (filter_more f lo n))

@@ -1,6 +1,6 @@
 //! Superset disassembly: decoding at every byte of the runs.
 
-ghost use Rattle.std.specs.Prelude.{◌≡◌, ◌+◌, ◌<◌, ◌≤◌, [], ◌∷◌, ◌++◌, length, IfOk, OnOk};
+ghost use Rattle.std.specs.Prelude.{◌≡◌, ◌+◌, ◌<◌, ◌≤◌, [], ◌∷◌, ◌++◌, length, option_to_list, IfOk, OnOk};
 ghost use Rattle.std.specs.List.{AllByRecursion};
 ghost use Rattle.elf32_read.specs.Runs.{code_of, AreSpread};
 ghost use Rattle.superset.specs.Sites.{site_at, sites_in, AreSites, EndsLow, HasLength};
@@ -42,27 +42,30 @@ fn add_sites(run: &Run, found: &mut Vec<Site>) -> Result<(), NoMemory>
         (found.new.items ≡ found.old.items ++ sites_in (code_of (run.now ∷ [])) (run.now ∷ [])) }
 {
     for offset in 0..run.bytes.len() {
-        if let Some(site) = site_in(run, offset) {
-            found.push(site)?;
-        }
+        push_site(run, offset, found)?;
     }
     Ok(())
 }
 
-/// The site at an offset of a run, where there is one.
-fn site_in(run: &Run, offset: usize) -> Option<Site>
+/// Appends the site at an offset of a run, where there is one.
+fn push_site(run: &Run, offset: usize, found: &mut Vec<Site>) -> Result<(), NoMemory>
     requires within { offset < length run.now.bytes }
     requires ends { run.now.lo + length run.now.bytes ≤ 0xFFFFF000 }
-    ensures { result ≡ site_at (code_of (run.now ∷ [])) (run.now.lo + offset) }
+    ensures { OnOk result
+        (found.new.items ≡ found.old.items
+        ++ option_to_list (site_at (code_of (run.now ∷ [])) (run.now.lo + offset))) }
 {
     let tail = &run.bytes.as_slice()[offset..];
     match decode(&tail[..LONGEST.min(tail.len())]) {
-        Decoded::Insn { insn, len } => Some(Site {
-            at: run.lo + offset as u32,
-            len,
-            insn,
-        }),
-        Decoded::Short => None,
-        Decoded::Unknown => None,
+        Decoded::Insn { insn, len } => {
+            found.push(Site {
+                at: run.lo + offset as u32,
+                len,
+                insn,
+            })?;
+            Ok(())
+        }
+        Decoded::Short => Ok(()),
+        Decoded::Unknown => Ok(()),
     }
 }

@@ -3,21 +3,12 @@ use Rattle.std.specs.List.{filter_map, range_with_len}
 use Rattle.elf32_read.specs.Runs.{code_of}
 use Rattle.superset.specs.Sites.{site_at}
 use Rattle.superset.specs.declared.site.Site.{Site}
-use Rattle.superset.proofs.RunSites.{run_sites_are, none_more, some_more}
+use Rattle.superset.proofs.RunSites.{run_sites_are, site_more}
 use Rattle.superset.proofs.disassembly.add_sites.Goals as goal
-use Rattle.superset.proofs.disassembly.add_sites.Goals.{in-Some+in_ok-push, in_default}
 
 pub loop-offset-preserved : goal.loop-offset-preserved
 loop-offset-preserved c =
-    let f = site_at (code_of (c.args.run.now ∷ [])) in
-    elim c.match-site_in.branch [
-      | in-Some+in_ok-push w ↦
-          let pushed : c.match-site_in.found.items ≡ c.loop-offset.found.items ++ w.in-Some.site ∷ [] = cc (w.found-is, w.in_ok-push.ensures.items) in
-          some_more f c.args.run.now.lo c.loop-offset.offset c.match-site_in.found.items c.loop-offset.found.items c.args.found.now.items w.in-Some.site (sym w.in-Some.ensures) c.loop-offset.invariant pushed
-      | in_default w ↦
-          let same : c.match-site_in.found.items ≡ c.loop-offset.found.items = cc (w.found-is) in
-          none_more f c.args.run.now.lo c.loop-offset.offset c.match-site_in.found.items c.args.found.now.items (sym w.in_default.ensures) (same ∙ c.loop-offset.invariant)
-    ]
+    site_more (site_at (code_of (c.args.run.now ∷ []))) c.args.run.now.lo c.loop-offset.offset _ c.loop-offset.found.items c.args.found.now.items c.loop-offset.invariant c.in_ok-push_site.ensures
 
 pub returns : goal.returns
 returns c =
