@@ -121,7 +121,8 @@ fn segment_fault(free: u64, index: u32, header: &Phdr) -> Option<ImageFault>
 
 /// Whether the header's segment has bytes that exceed a file of `len` bytes.
 fn exceeds_file(len: u64, header: &Phdr) -> bool
-    ensures { result ≡ (nat_lt 0 header.now.filesz && nat_lt len (header.now.offset + header.now.filesz)) }
+    ensures { result ≡ (nat_lt 0 header.now.filesz && nat_lt len (header.now.offset +
+        header.now.filesz)) }
 {
     header.filesz > 0 && u64::from(header.offset) + u64::from(header.filesz) > len
 }

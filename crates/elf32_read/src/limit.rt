@@ -20,7 +20,8 @@ const MOST_HEADERS: usize = 61;
 /// `CodeTooLarge` where the executable segments have more than 4,194,304 bytes together; else `HeadersFull` where
 /// there are more than 61 program headers.
 pub fn admit(image: &Image) -> Result<(), ImageFault>
-    ensures { MatchResult result (λ _. exceeded image.now ≡ None) (λ fault. exceeded image.now ≡ Some fault) }
+    ensures { MatchResult result (λ _. exceeded image.now ≡ None) (λ fault. exceeded image.now ≡
+        Some fault) }
 {
     if has_too_much_code(image.segments.as_slice()) {
         return Err(ImageFault::CodeTooLarge);

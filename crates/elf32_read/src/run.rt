@@ -144,7 +144,11 @@ fn ends_at(run: &Run, at: u32) -> bool
 /// A run with the bytes of a segment behind it: those of the file, then zeros.
 fn extended(run: Run, segment: &Segment, bytes: &[u8]) -> Result<Run, NoMemory>
     requires { IsFilled bytes.now segment.now }
-    ensures { IfOk result (λ more. more ≡ record { lo = run.lo; bytes = run.bytes ++ segment_bytes bytes.now segment.now }) }
+    ensures { IfOk result (λ more. more ≡ record {
+      lo = run.lo;
+      bytes = run.bytes ++
+          segment_bytes bytes.now segment.now;
+    }) }
 {
     let Run { lo, bytes: held } = run;
     let mut held = held.into_vec();

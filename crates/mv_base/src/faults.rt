@@ -14,7 +14,8 @@ pub(crate) fn count_fault(
     count: &mut u64,
     failed: &mut String,
 ) -> StoreFault
-    ensures counts { FaultCounts result count.old count.new name.now (string_bytes failed.old) (string_bytes failed.new) }
+    ensures counts { FaultCounts result count.old count.new name.now (string_bytes failed.old)
+        (string_bytes failed.new) }
     ensures never_falls { count.old ≤ count.new }
     ensures to_last { count.old ≤ last_count → count.new ≤ last_count }
 {

@@ -56,7 +56,8 @@ impl Sink for MemSink {
         ensures to_last { fault_count self.old ≤ last_count → fault_count self.new ≤ last_count }
 
         // Failed comes exactly at the calls with the numbers that were given, want of memory aside.
-        ensures fails { SinkFailsWhere result (Contains (failing_puts self.old) (next_call (put_count self.old))) }
+        ensures fails { SinkFailsWhere result (Contains (failing_puts self.old)
+            (next_call (put_count self.old))) }
         ensures numbered { put_count self.new ≡ next_call (put_count self.old) }
         ensures failing_same { failing_puts self.new ≡ failing_puts self.old }
     {

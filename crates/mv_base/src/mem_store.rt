@@ -34,7 +34,8 @@ impl MemStore {
         fail_puts: Vec<u64>,
     ) -> Result<MemStore, NoMemory>
         ensures holds { IfOk result (λ s. (name : List ℕ) → held_bytes s name ≡ None) }
-        ensures failing { IfOk result (λ s. (failing_gets s ≡ fail_gets.items) × (failing_puts s ≡ fail_puts.items)) }
+        ensures failing { IfOk result (λ s. (failing_gets s ≡ fail_gets.items) ×
+            (failing_puts s ≡ fail_puts.items)) }
         ensures numbered { IfOk result (λ s. (get_count s ≡ 0) × (put_count s ≡ 0)) }
         ensures counts { IfOk result (λ s. (read_fault_count s ≡ 0) × (write_fault_count s ≡ 0)) }
         ensures failed { IfOk result (λ s. failed_name s ≡ []) }
@@ -54,7 +55,8 @@ impl MemStore {
 
     /// What `name` holds; `None` exactly where it isn't held.
     pub fn file(&self, name: &str) -> Option<&[u8]>
-        ensures { MatchOption result (held_bytes self.now name.now ≡ None) (λ b. held_bytes self.now name.now ≡ Some b.now) }
+        ensures { MatchOption result (held_bytes self.now name.now ≡ None)
+            (λ b. held_bytes self.now name.now ≡ Some b.now) }
     {
         match self.files.get(name) {
             Some(bytes) => Some(bytes.as_slice()),
@@ -65,7 +67,8 @@ impl MemStore {
     /// Makes `name` hold `bytes`. It is no `put`, and has no number. After an error nothing has changed.
     pub fn add(&mut self, name: &str, bytes: &[u8]) -> Result<(), NoMemory>
         ensures ok { OnOk result (held_bytes self.new name.now ≡ Some bytes.now) }
-        ensures others_same { (other : List ℕ) → other ≢ name.now → held_bytes self.new other ≡ held_bytes self.old other }
+        ensures others_same { (other : List ℕ) → other ≢ name.now → held_bytes self.new other ≡
+            held_bytes self.old other }
         ensures err { OnErr result (held_bytes self.new ≡ held_bytes self.old) }
         ensures calls_same { SameCalls self.old self.new }
     {
@@ -93,17 +96,21 @@ impl Store for MemStore {
         ensures at_most_limit { KeepsLimit result limit to.new.items }
         ensures holds_same { held_bytes self.new ≡ held_bytes self.old }
 
-        ensures counts { StoreCounts result (read_fault_count self.old) (read_fault_count self.new) name.now (failed_name self.old) (failed_name self.new) }
+        ensures counts { StoreCounts result (read_fault_count self.old)
+            (read_fault_count self.new) name.now (failed_name self.old) (failed_name self.new) }
         ensures never_falls { read_fault_count self.old ≤ read_fault_count self.new }
-        ensures to_last { read_fault_count self.old ≤ last_count → read_fault_count self.new ≤ last_count }
+        ensures to_last { read_fault_count self.old ≤ last_count → read_fault_count self.new ≤
+            last_count }
         ensures write_faults_same { write_fault_count self.new ≡ write_fault_count self.old }
 
         // Failed comes exactly at the calls with the numbers that were given and at names that aren't held, want of
         // memory aside.
-        ensures fails { StoreFailsWhere result (Contains (failing_gets self.old) (next_call (get_count self.old)) ⊎ IsNone (held_bytes self.old name.now)) }
+        ensures fails { StoreFailsWhere result (Contains (failing_gets self.old)
+            (next_call (get_count self.old)) ⊎ IsNone (held_bytes self.old name.now)) }
         ensures numbered { get_count self.new ≡ next_call (get_count self.old) }
         ensures puts_same { put_count self.new ≡ put_count self.old }
-        ensures failing_same { (failing_gets self.new ≡ failing_gets self.old) × (failing_puts self.new ≡ failing_puts self.old) }
+        ensures failing_same { (failing_gets self.new ≡ failing_gets self.old) ×
+            (failing_puts self.new ≡ failing_puts self.old) }
     {
         self.gets = self.gets.saturating_add(1);
         if self.fail_gets.contains(&self.gets) {
@@ -120,19 +127,25 @@ impl Store for MemStore {
     }
 
     fn put(&mut self, name: &str, bytes: &[u8]) -> Result<(), StoreFault>
-        ensures puts { Puts result (held_bytes self.old name.now) (held_bytes self.new name.now) bytes.now }
-        ensures others_same { (other : List ℕ) → other ≢ name.now → held_bytes self.new other ≡ held_bytes self.old other }
+        ensures puts { Puts result (held_bytes self.old name.now) (held_bytes self.new name.now)
+            bytes.now }
+        ensures others_same { (other : List ℕ) → other ≢ name.now → held_bytes self.new other ≡
+            held_bytes self.old other }
 
-        ensures counts { StoreCounts result (write_fault_count self.old) (write_fault_count self.new) name.now (failed_name self.old) (failed_name self.new) }
+        ensures counts { StoreCounts result (write_fault_count self.old)
+            (write_fault_count self.new) name.now (failed_name self.old) (failed_name self.new) }
         ensures never_falls { write_fault_count self.old ≤ write_fault_count self.new }
-        ensures to_last { write_fault_count self.old ≤ last_count → write_fault_count self.new ≤ last_count }
+        ensures to_last { write_fault_count self.old ≤ last_count → write_fault_count self.new ≤
+            last_count }
         ensures read_faults_same { read_fault_count self.new ≡ read_fault_count self.old }
 
         // Failed comes exactly at the calls with the numbers that were given, want of memory aside.
-        ensures fails { StoreFailsWhere result (Contains (failing_puts self.old) (next_call (put_count self.old))) }
+        ensures fails { StoreFailsWhere result (Contains (failing_puts self.old)
+            (next_call (put_count self.old))) }
         ensures numbered { put_count self.new ≡ next_call (put_count self.old) }
         ensures gets_same { get_count self.new ≡ get_count self.old }
-        ensures failing_same { (failing_gets self.new ≡ failing_gets self.old) × (failing_puts self.new ≡ failing_puts self.old) }
+        ensures failing_same { (failing_gets self.new ≡ failing_gets self.old) ×
+            (failing_puts self.new ≡ failing_puts self.old) }
     {
         self.puts = self.puts.saturating_add(1);
         if self.fail_puts.contains(&self.puts) {

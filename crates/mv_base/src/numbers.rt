@@ -31,7 +31,8 @@ impl<T: Drop> From<AllocFailed<T>> for NoMemory {
 #[tactic(auto, unfolding(crate::specs::Bytes::word_at))]
 pub fn u32_at(bytes: &[u8], place: usize) -> Option<u32>
     ensures missing { IfNone result (length bytes.now < place + 4) }
-    ensures number { IfSome result (λ n. (place + 4 ≤ length bytes.now) × (n ≡ word_at bytes.now place)) }
+    ensures number { IfSome result (λ n. (place + 4 ≤ length bytes.now) × (n ≡ word_at bytes.now
+        place)) }
 {
     let tail = bytes.get(place..)?;
     if tail.len() < 4 {

@@ -50,7 +50,8 @@ pub trait Sink {
     ///
     /// After `Failed` or `NoMemory` the first few of the bytes, or none, are appended.
     fn put(&mut self, bytes: &[u8]) -> Result<(), SinkFault>
-        ensures prints { IsTrue (tells self.old) → Prints result bytes.now (written self.old) (written self.new) }
+        ensures prints { IsTrue (tells self.old) → Prints result bytes.now (written self.old)
+            (written self.new) }
         ensures counts { SinkCounts result (faults self.old) (faults self.new) }
         ensures never_falls { faults self.old ≤ faults self.new }
         ensures to_last { faults self.old ≤ last_count → faults self.new ≤ last_count }

@@ -84,11 +84,13 @@ pub trait Store {
     /// answer that isn't `Whole` nothing is said of `to`.
     fn get(&mut self, name: &str, limit: usize, to: &mut Vec<u8>) -> Result<Got, StoreFault>
         requires { to.old.items ≡ [] }
-        ensures gets { IsTrue (tells self.old) → Gets result (holds self.old name.now) limit to.new.items }
+        ensures gets { IsTrue (tells self.old) → Gets result (holds self.old name.now) limit
+            to.new.items }
         ensures at_most_limit { KeepsLimit result limit to.new.items }
         ensures holds_same { holds self.new ≡ holds self.old }
 
-        ensures counts { StoreCounts result (read_faults self.old) (read_faults self.new) name.now (failed self.old) (failed self.new) }
+        ensures counts { StoreCounts result (read_faults self.old) (read_faults self.new)
+            name.now (failed self.old) (failed self.new) }
         ensures never_falls { read_faults self.old ≤ read_faults self.new }
         ensures to_last { read_faults self.old ≤ last_count → read_faults self.new ≤ last_count }
         ensures write_faults_same { write_faults self.new ≡ write_faults self.old }
@@ -98,10 +100,13 @@ pub trait Store {
     ///
     /// After `Failed` or `NoMemory` the name holds what it held, or the first few of the new bytes.
     fn put(&mut self, name: &str, bytes: &[u8]) -> Result<(), StoreFault>
-        ensures puts { IsTrue (tells self.old) → Puts result (holds self.old name.now) (holds self.new name.now) bytes.now }
-        ensures others_same { (other : List ℕ) → other ≢ name.now → holds self.new other ≡ holds self.old other }
+        ensures puts { IsTrue (tells self.old) → Puts result (holds self.old name.now)
+            (holds self.new name.now) bytes.now }
+        ensures others_same { (other : List ℕ) → other ≢ name.now → holds self.new other ≡ holds
+            self.old other }
 
-        ensures counts { StoreCounts result (write_faults self.old) (write_faults self.new) name.now (failed self.old) (failed self.new) }
+        ensures counts { StoreCounts result (write_faults self.old) (write_faults self.new)
+            name.now (failed self.old) (failed self.new) }
         ensures never_falls { write_faults self.old ≤ write_faults self.new }
         ensures to_last { write_faults self.old ≤ last_count → write_faults self.new ≤ last_count }
         ensures read_faults_same { read_faults self.new ≡ read_faults self.old }

@@ -112,7 +112,8 @@ impl Memory {
     ///
     /// The first of these bytes that isn't mapped or can't be written. Then nothing has changed.
     pub fn write(&mut self, at: u32, width: Width, n: u32) -> Result<(), u32>
-        ensures { IsWritten (cells self.old) at (little_bytes (width_bytes width) n) (cells self.new) result }
+        ensures { IsWritten (cells self.old) at (little_bytes (width_bytes width) n)
+            (cells self.new) result }
     {
         if let Some(fault) = self.write_fault(at, width.bytes() as u32) {
             return Err(fault);
@@ -150,7 +151,8 @@ impl Memory {
 
     /// Copies the executable bytes from `at` on, at most 15, to the front of `to`, and gives their number.
     pub fn exec_bytes(&self, at: u32, to: &mut [u8; 15]) -> usize
-        ensures copied { to.new ≡ executable_bytes (exec_byte (cells self.now)) at 15 ++ drop (length (executable_bytes (exec_byte (cells self.now)) at 15)) to.old }
+        ensures copied { to.new ≡ executable_bytes (exec_byte (cells self.now)) at 15 ++ drop
+            (length (executable_bytes (exec_byte (cells self.now)) at 15)) to.old }
         ensures number { result ≡ length (executable_bytes (exec_byte (cells self.now)) at 15) }
     {
         let place = at % PAGE_SIZE;
@@ -165,7 +167,8 @@ impl Memory {
 
     /// The same, byte by byte, where they may stand in two pages.
     fn exec_bytes_apart(&self, at: u32, to: &mut [u8; 15]) -> usize
-        ensures copied { to.new ≡ executable_bytes (exec_byte (cells self.now)) at 15 ++ drop (length (executable_bytes (exec_byte (cells self.now)) at 15)) to.old }
+        ensures copied { to.new ≡ executable_bytes (exec_byte (cells self.now)) at 15 ++ drop
+            (length (executable_bytes (exec_byte (cells self.now)) at 15)) to.old }
         ensures number { result ≡ length (executable_bytes (exec_byte (cells self.now)) at 15) }
     {
         let mut next = u64::from(at);

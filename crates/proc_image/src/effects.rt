@@ -87,7 +87,8 @@ impl Memory {
     fn apply_map(&mut self, lo: u32, len: u32, mode: Mode, bytes: &[u8]) -> Result<(), EffectFault>
         requires some { 0 < len }
         requires low { lo + len ≤ 0xFFFFF000 }
-        ensures { IsApplied (cells self.old) (MapAt lo len (mode_of mode) bytes.now) (cells self.new) result }
+        ensures { IsApplied (cells self.old) (MapAt lo len (mode_of mode) bytes.now)
+            (cells self.new) result }
     {
         if is_exec(mode) || self.touches_code(lo, len) {
             return Err(EffectFault::Executable);
@@ -119,7 +120,8 @@ impl Memory {
     fn pages_with(&self, lo: u32, len: u32) -> u32
         requires some { 0 < len }
         requires low { lo + len ≤ 0xFFFFF000 }
-        ensures { (bytes : List ℕ) (write exec : Bool) → result ≡ mapped_pages (filled (cells self.now) lo len bytes write exec) }
+        ensures { (bytes : List ℕ) (write exec : Bool) → result ≡ mapped_pages
+            (filled (cells self.now) lo len bytes write exec) }
     {
         let first = lo / PAGE_SIZE;
         let count = (lo + len + 4_095) / PAGE_SIZE - first;
@@ -129,7 +131,8 @@ impl Memory {
     /// Whether one of `len` cells from `lo` on can be executed.
     fn touches_code(&self, lo: u32, len: u32) -> bool
         requires { lo + len ≤ 0xFFFFF000 }
-        ensures { result ≡ is_some (first_failing (λ a. not (is_executable (cells self.now) a)) lo len) }
+        ensures { result ≡ is_some (first_failing (λ a. not (is_executable (cells self.now) a))
+            lo len) }
     {
         let end = lo + len;
         let mut at = lo;

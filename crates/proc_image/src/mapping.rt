@@ -23,7 +23,8 @@ impl Memory {
         exec: bool,
     ) -> Result<(), NoMemory>
         requires { lo + len ≤ 0xFFFFF000 }
-        ensures ok { OnOk result (cells self.new ≡ filled (cells self.old) lo len bytes.now write exec) }
+        ensures ok { OnOk result (cells self.new ≡ filled (cells self.old) lo len bytes.now write
+            exec) }
         ensures err { OnErr result (cells self.new ≡ cells self.old) }
     {
         self.reserve_range(lo, len)?;
@@ -35,7 +36,8 @@ impl Memory {
     pub(crate) fn reserve_range(&mut self, lo: u32, len: u32) -> Result<(), NoMemory>
         requires { lo + len ≤ 0xFFFFF000 }
         ensures same { cells self.new ≡ cells self.old }
-        ensures room { OnOk result ((a : ℕ) → lo ≤ a → a < lo + len → a % 4096 < length (page_of self.new (a / 4096))) }
+        ensures room { OnOk result ((a : ℕ) → lo ≤ a → a < lo + len → a % 4096 < length
+            (page_of self.new (a / 4096))) }
     {
         for page in lo / PAGE_SIZE..(lo + len + 4_095) / PAGE_SIZE {
             self.reserve(page)?;
@@ -46,7 +48,8 @@ impl Memory {
     /// Maps `len` new cells from `lo` on, for which there is room: `bytes` and then zeros, with these marks.
     pub(crate) fn fill(&mut self, lo: u32, len: u32, bytes: &[u8], write: bool, exec: bool)
         requires low { lo + len ≤ 0xFFFFF000 }
-        requires room { (a : ℕ) → lo ≤ a → a < lo + len → a % 4096 < length (page_of self.old (a / 4096)) }
+        requires room { (a : ℕ) → lo ≤ a → a < lo + len → a % 4096 < length
+            (page_of self.old (a / 4096)) }
         ensures filled { cells self.new ≡ filled (cells self.old) lo len bytes.now write exec }
         ensures room { (q : ℕ) → length (page_of self.new q) ≡ length (page_of self.old q) }
     {

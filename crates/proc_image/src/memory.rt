@@ -31,7 +31,8 @@ impl Memory {
     /// The table with a number; `None` where it isn't there.
     #[tactic(auto, unfolding(crate::specs::Paged::table_of))]
     fn table(&self, number: usize) -> Option<&PageTable>
-        ensures { MatchOption result (table_of self.now number ≡ []) (λ t. t.now ≡ table_of self.now number) }
+        ensures { MatchOption result (table_of self.now number ≡ []) (λ t. t.now ≡ table_of
+            self.now number) }
     {
         self.directory.get(number)
     }
@@ -48,7 +49,8 @@ impl Memory {
 
     /// The page with a number; `None` where it isn't there.
     pub(crate) fn page(&self, number: u32) -> Option<&Page>
-        ensures { MatchOption result (page_of self.now number ≡ []) (λ p. p.now ≡ page_of self.now number) }
+        ensures { MatchOption result (page_of self.now number ≡ []) (λ p. p.now ≡ page_of
+            self.now number) }
     {
         match self.table((number / TABLE_SIZE) as usize) {
             Some(table) => table.page((number % TABLE_SIZE) as usize),

@@ -82,7 +82,8 @@ impl Page {
     /// Copies the executable bytes from a place on, at most 15, to the front of `to`, and gives their number.
     pub fn exec_bytes(&self, place: usize, to: &mut [u8; 15]) -> usize
         requires { place + 15 ≤ 4096 }
-        ensures copied { to.new ≡ exec_bytes (exec_byte_in self.now) place 15 ++ drop (length (exec_bytes (exec_byte_in self.now) place 15)) to.old }
+        ensures copied { to.new ≡ exec_bytes (exec_byte_in self.now) place 15 ++ drop
+            (length (exec_bytes (exec_byte_in self.now) place 15)) to.old }
         ensures number { result ≡ length (exec_bytes (exec_byte_in self.now) place 15) }
     {
         for i in 0..15 {
@@ -148,7 +149,8 @@ impl PageTable {
 
     /// The page with a number; `None` where it isn't there.
     pub fn page(&self, number: usize) -> Option<&Page>
-        ensures { MatchOption result (slice_index_or self.now number [] ≡ []) (λ p. p.now ≡ slice_index_or self.now number []) }
+        ensures { MatchOption result (slice_index_or self.now number [] ≡ [])
+            (λ p. p.now ≡ slice_index_or self.now number []) }
     {
         self.pages.get(number)
     }
@@ -156,14 +158,16 @@ impl PageTable {
     /// Maps a cell at a place of a page, or with `None` takes it away. The page has the place.
     pub fn set(&mut self, number: usize, place: usize, cell: Option<Cell>)
         requires { place < length (slice_index_or self.old number []) }
-        ensures { self.new ≡ slice_set self.old number (slice_set (slice_index_or self.old number []) place cell) }
+        ensures { self.new ≡ slice_set self.old number (slice_set (slice_index_or self.old number
+            []) place cell) }
     {
         self.pages[number].set(place, cell);
     }
 
     /// Makes room for all cells of a page. The mapped cells stay, also where memory is wanting.
     pub fn reserve(&mut self, alloc: Global, number: usize) -> Result<(), NoMemory>
-        ensures longer { (q : ℕ) → IsLonger (slice_index_or self.old q []) (slice_index_or self.new q []) }
+        ensures longer { (q : ℕ) → IsLonger (slice_index_or self.old q [])
+            (slice_index_or self.new q []) }
         ensures room { OnOk result (4096 ≤ length (slice_index_or self.new number [])) }
     {
         while self.pages.len() <= number {

@@ -83,7 +83,8 @@ impl Memory {
         requires few { length args.now ≤ 1024 }
         requires low { pointer ≤ 0xBFFFF000 }
         requires end { start + length (argument_bytes args.now) ≡ 0xBFFFF000 }
-        ensures { cells self.new ≡ put (cells self.old) pointer (words (length args.now ∷ pointers start args.now)) }
+        ensures { cells self.new ≡ put (cells self.old) pointer
+            (words (length args.now ∷ pointers start args.now)) }
     {
         self.put_dword(pointer, args.len() as u32);
         let mut place = pointer + 4;

@@ -1,5 +1,5 @@
 -- The code that stands for a site. This project's own.
-use Rattle.std.specs.Prelude.{ℕ, ◌+◌, List, [], ◌++◌, length, Option, if◌then◌else◌}
+use Rattle.std.specs.Prelude.{ℕ, ◌+◌, List, [], ◌∷◌, ◌++◌, length, Option, None, Some, ◌==◌, if◌then◌else◌}
 use Rattle.mv_base.specs.Memory.{exec_bytes}
 use Rattle.x86_insn.specs.declared.insn.Flow.{Flow}
 use Rattle.x86_insn.specs.declared.insn.Flow.TheVariants.{Plain, Jump, Branch, Count, Call, JumpVia, CallVia, Return, Trap, System}
@@ -7,6 +7,7 @@ use Rattle.x86_insn.specs.Flow.{flow_of, falls}
 use Rattle.step_laws.specs.Jumps.{jump_bytes}
 use Rattle.branch_lengthen.specs.Near.{near_bytes}
 use Rattle.call_rewrite.specs.Far.{far_bytes, load_of}
+use Rattle.counter_hooks.specs.Counter.{counter}
 use Rattle.superset.specs.declared.site.Site.{Site}
 pub use Rattle.superset.specs.Targets.{successor, target_after, target}
 use Rattle.simulation_laws.specs.declared.anchors.Anchors.{Anchors}
@@ -35,3 +36,21 @@ join move here s = if falls (flow_of s.insn) then jump_bytes here (move (success
 -- a piece and the join behind it
 abbrev pub with_join : (ℕ → ℕ) → ℕ → Site → List ℕ → List ℕ
 with_join move here s p = p ++ join move (here + length p) s
+
+-- ---- counters
+
+-- where the counter of an address is, if the address is listed: the counters stand one behind the other, eight bytes each,
+-- in the order of the list
+unfoldable pub counter_in : ℕ → List ℕ → ℕ → Option ℕ
+counter_in first [] a = None
+counter_in first (x ∷ xs) a = if x == a then Some first else counter_in (first + 8) xs a
+
+-- the counter in front of a piece, where the site has one
+abbrev pub counter_code : Anchors → Option ℕ → List ℕ
+counter_code anchors None = []
+counter_code anchors (Some k) = counter anchors.private k
+
+-- the code of a site that stands at an address: its counter, where it has one, and its piece
+abbrev pub counted_piece : Anchors → (ℕ → ℕ) → (ℕ → Option ℕ) → Option ℕ → ℕ → Site → List ℕ
+counted_piece anchors move code place here s =
+    counter_code anchors place ++ piece anchors move code (here + length (counter_code anchors place)) s

@@ -86,7 +86,8 @@ fn sum_overflows(w: Width, a: u32, b: u32, carry: bool, r: u32) -> bool
     requires a_fits { a < modulus_of w }
     requires b_fits { b < modulus_of w }
     requires sum { r ≡ sum_value w a b (from_bool carry) }
-    ensures { result ≡ not (in_signed_range w (signed_value w a +ℤ signed_value w b +ℤ pos (from_bool carry))) }
+    ensures { result ≡ not (in_signed_range w (signed_value w a +ℤ signed_value w b +ℤ pos
+        (from_bool carry))) }
 {
     let same = top(w, a) == top(w, b);
     let turned = top(w, r) != top(w, a);
@@ -125,7 +126,8 @@ fn difference_overflows(w: Width, a: u32, b: u32, borrow: bool, r: u32) -> bool
     requires a_fits { a < modulus_of w }
     requires b_fits { b < modulus_of w }
     requires difference { r ≡ difference_value w a b (from_bool borrow) }
-    ensures { result ≡ not (in_signed_range w (signed_value w a -ℤ signed_value w b -ℤ pos (from_bool borrow))) }
+    ensures { result ≡ not (in_signed_range w (signed_value w a -ℤ signed_value w b -ℤ pos
+        (from_bool borrow))) }
 {
     let apart = top(w, a) != top(w, b);
     let turned = top(w, r) != top(w, a);

@@ -113,7 +113,8 @@ fn scan_hint(bytes: &[u8], marks: Marks) -> Reading
 
 // What operand bytes come to behind a one-byte opcode.
 fn scan_one_byte(opcode: u8, bytes: &[u8], marks: Marks) -> Reading
-    ensures is { scan_of result ≡ scan_forms (forms_at opcode (rows_behind [])) marks opcode bytes.now }
+    ensures is { scan_of result ≡ scan_forms (forms_at opcode (rows_behind [])) marks opcode
+        bytes.now }
     ensures len { len_of (scan_of result) ≤ 10 }
 {
     match one_byte(opcode) {
@@ -124,7 +125,8 @@ fn scan_one_byte(opcode: u8, bytes: &[u8], marks: Marks) -> Reading
 
 // What operand bytes come to behind an opcode behind 0F.
 fn scan_two_byte(opcode: u8, bytes: &[u8], marks: Marks) -> Reading
-    ensures is { scan_of result ≡ scan_forms (forms_at opcode (rows_behind (0x0F ∷ []))) marks opcode bytes.now }
+    ensures is { scan_of result ≡ scan_forms (forms_at opcode (rows_behind (0x0F ∷ []))) marks
+        opcode bytes.now }
     ensures len { len_of (scan_of result) ≤ 10 }
 {
     match two_byte(opcode) {

@@ -206,6 +206,13 @@ decoded_bounds bytes i n h =
           | inr p ↦ p
         ]
 
+-- what is decoded depends on the front alone
+pub decoded_alike : (s t : List ℕ) (i : Insn) (n : ℕ) → decoded s ≡ Some (i, n) → take n t ≡ take n s → decoded t ≡ Some (i, n)
+decoded_alike s t i n h e =
+    let w = decoded_bounds s i n h in
+    let len : length (take n t) ≡ n = ap length e ∙ length-take-le n s w.2 in
+    decoded_of n t i (ap spelled e ∙ w.3) (omega (arith, len, length-take {A = ℕ} n t))
+
 -- bytes after the fifteenth don't matter
 first_same : (s t : List ℕ) (k n : ℕ) → ((j : ℕ) → j < k + n → spelled (take j t) ≡ spelled (take j s)) → first_spelled k n t ≡ first_spelled k n s
 unfolding first_spelled

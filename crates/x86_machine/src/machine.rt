@@ -57,11 +57,15 @@ impl Machine {
     /// mapped byte, with their bytes.
     pub fn step(&mut self, answers: &mut Answers) -> Outcome
         requires next { answers.old.next ≤ length answers.old.log.now.answers }
-        requires room { length answers.old.log.now.answers ≤ self.old.calls.spare + answers.old.next }
-        ensures is { IsStep (state_of self.old (answers_from answers.old.log.now answers.old.next)) result (state_of self.new (answers_from answers.new.log.now answers.new.next)) }
+        requires room { length answers.old.log.now.answers ≤ self.old.calls.spare +
+            answers.old.next }
+        ensures is { IsStep (state_of self.old (answers_from answers.old.log.now
+            answers.old.next)) result (state_of self.new (answers_from answers.new.log.now
+            answers.new.next)) }
         ensures log { answers.new.log.now ≡ answers.old.log.now }
         ensures next { answers.new.next ≤ length answers.new.log.now.answers }
-        ensures room { length answers.new.log.now.answers ≤ self.new.calls.spare + answers.new.next }
+        ensures room { length answers.new.log.now.answers ≤ self.new.calls.spare +
+            answers.new.next }
         ensures spare { KeepsRoom self.old self.new }
     {
         match fetch(&self.memory, self.eip) {
@@ -106,7 +110,11 @@ impl Machine {
 
     /// An instruction of flow Plain or Trap; `next` is the address after it.
     fn run(&mut self, insn: &Insn, next: u32) -> Outcome
-        ensures is { (answers : List AnswerOf) → ComesTo [] (after_rounds (state_of self.old answers) next (rounds (limit insn.now (core_of self.old)) insn.now (core_of self.old) (cells self.old.memory))) (state_of self.old answers) result (state_of self.new answers) }
+        ensures is { (answers : List AnswerOf) → ComesTo []
+            (after_rounds (state_of self.old answers) next
+            (rounds (limit insn.now (core_of self.old)) insn.now (core_of self.old)
+            (cells self.old.memory))) (state_of self.old answers) result
+            (state_of self.new answers) }
         ensures calls { self.new.calls ≡ self.old.calls }
     {
         match run_rounds(insn, self.core(), &mut self.memory) {
@@ -124,7 +132,10 @@ impl Machine {
 
     /// A control transfer; `next` is the address after it.
     fn transfer(&mut self, insn: &Insn, next: u32) -> Outcome
-        ensures is { (answers : List AnswerOf) → ComesTo [] (after_hop (state_of self.old answers) (turn (cells self.old.memory) (hop next insn.now (core_of self.old)))) (state_of self.old answers) result (state_of self.new answers) }
+        ensures is { (answers : List AnswerOf) → ComesTo []
+            (after_hop (state_of self.old answers) (turn (cells self.old.memory)
+            (hop next insn.now (core_of self.old)))) (state_of self.old answers) result
+            (state_of self.new answers) }
         ensures calls { self.new.calls ≡ self.old.calls }
     {
         let core = self.core();
@@ -146,11 +157,17 @@ impl Machine {
     /// A system call takes the next answer; `next` is the address after the instruction.
     fn call_system(&mut self, next: u32, answers: &mut Answers) -> Outcome
         requires next { answers.old.next ≤ length answers.old.log.now.answers }
-        requires room { length answers.old.log.now.answers ≤ self.old.calls.spare + answers.old.next }
-        ensures is { ComesTo (first_effects (answers_from answers.old.log.now answers.old.next)) (system (state_of self.old (answers_from answers.old.log.now answers.old.next)) next (answers_from answers.old.log.now answers.old.next)) (state_of self.old (answers_from answers.old.log.now answers.old.next)) result (state_of self.new (answers_from answers.new.log.now answers.new.next)) }
+        requires room { length answers.old.log.now.answers ≤ self.old.calls.spare +
+            answers.old.next }
+        ensures is { ComesTo (first_effects (answers_from answers.old.log.now answers.old.next))
+            (system (state_of self.old (answers_from answers.old.log.now answers.old.next)) next
+            (answers_from answers.old.log.now answers.old.next))
+            (state_of self.old (answers_from answers.old.log.now answers.old.next)) result
+            (state_of self.new (answers_from answers.new.log.now answers.new.next)) }
         ensures log { answers.new.log.now ≡ answers.old.log.now }
         ensures next { answers.new.next ≤ length answers.new.log.now.answers }
-        ensures room { length answers.new.log.now.answers ≤ self.new.calls.spare + answers.new.next }
+        ensures room { length answers.new.log.now.answers ≤ self.new.calls.spare +
+            answers.new.next }
         ensures spare { KeepsRoom self.old self.new }
     {
         let log = answers.log;

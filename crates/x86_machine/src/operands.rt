@@ -155,7 +155,8 @@ pub fn got_at(at: u32, width: Width, got: &[AccessBytes]) -> Got
 /// An operand's value.
 #[tactic(auto, unfolding(x86_insn::specs::Ask::got_rm))]
 pub fn got_rm<'a>(width: Width, core: &Core, operand: &Rm, got: &'a [AccessBytes]) -> Got<'a>
-    ensures given { IfOk result (λ p. got_rm width core.now operand.now got.now ≡ Ok (p.0, p.1.now)) }
+    ensures given { IfOk result (λ p. got_rm width core.now operand.now got.now ≡ Ok
+        (p.0, p.1.now)) }
     ensures missing { IfErr result (λ p. got_rm width core.now operand.now got.now ≡ Err p) }
     ensures fits { IfOk result (λ p. p.0 < modulus width) }
 {
@@ -168,7 +169,8 @@ pub fn got_rm<'a>(width: Width, core: &Core, operand: &Rm, got: &'a [AccessBytes
 /// The value of an operand that is only read.
 #[tactic(auto, unfolding(x86_insn::specs::Ask::got_src))]
 pub fn got_src<'a>(width: Width, core: &Core, operand: &Src, got: &'a [AccessBytes]) -> Got<'a>
-    ensures given { IfOk result (λ p. got_src width core.now operand.now got.now ≡ Ok (p.0, p.1.now)) }
+    ensures given { IfOk result (λ p. got_src width core.now operand.now got.now ≡ Ok
+        (p.0, p.1.now)) }
     ensures missing { IfErr result (λ p. got_src width core.now operand.now got.now ≡ Err p) }
     ensures fits { IfOk result (λ p. p.0 < modulus width) }
 {

@@ -20,7 +20,8 @@ pub enum Ran {
 
 /// All rounds of an instruction of flow Plain or Trap.
 pub fn run_rounds(insn: &Insn, core: Core, memory: &mut Memory) -> Ran
-    ensures { rounds (limit_of insn.now core) insn.now core (cells memory.old) ≡ ran result (cells memory.new) }
+    ensures { rounds (limit_of insn.now core) insn.now core (cells memory.old) ≡ ran result
+        (cells memory.new) }
 {
     let mut core = core;
     let mut left = limit(insn, &core);

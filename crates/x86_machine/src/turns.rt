@@ -79,7 +79,8 @@ fn read(memory: &Memory, at: u32, len: AccessLen) -> Result<AccessBytes, Stop>
 /// What the asks come to that follow a read of no, one and two byte lists.
 #[tactic(auto, unfolding(x86_insn::specs::Step::asks))]
 pub fn take_turn<E: Drop, A: Asks<E>>(memory: &mut Memory, asker: &A) -> Turn<E>
-    ensures is { turn_of (cells memory.old) (A.Asks.asked asker.now) ≡ turned result (cells memory.new) }
+    ensures is { turn_of (cells memory.old) (A.Asks.asked asker.now) ≡ turned result
+        (cells memory.new) }
     ensures kept { KeptWhereHalted result (cells memory.old) (cells memory.new) }
 {
     match asker.ask(&[]) {
@@ -94,7 +95,8 @@ pub fn take_turn<E: Drop, A: Asks<E>>(memory: &mut Memory, asker: &A) -> Turn<E>
 
 #[tactic(auto, unfolding(x86_insn::specs::Step::asks))]
 fn after_one<E: Drop, A: Asks<E>>(memory: &mut Memory, asker: &A, first: AccessBytes) -> Turn<E>
-    ensures is { asks 1 (cells memory.old) (A.Asks.asked asker.now) (first ∷ []) ≡ turned result (cells memory.new) }
+    ensures is { asks 1 (cells memory.old) (A.Asks.asked asker.now) (first ∷ []) ≡ turned result
+        (cells memory.new) }
     ensures kept { KeptWhereHalted result (cells memory.old) (cells memory.new) }
 {
     let got = [first];
@@ -118,7 +120,8 @@ fn after_two<E: Drop, A: Asks<E>>(
     first: AccessBytes,
     second: AccessBytes,
 ) -> Turn<E>
-    ensures is { asks 0 (cells memory.old) (A.Asks.asked asker.now) (first ∷ second ∷ []) ≡ turned result (cells memory.new) }
+    ensures is { asks 0 (cells memory.old) (A.Asks.asked asker.now) (first ∷ second ∷ []) ≡
+        turned result (cells memory.new) }
     ensures kept { KeptWhereHalted result (cells memory.old) (cells memory.new) }
 {
     match asker.ask(&[first, second]) {

@@ -6,16 +6,9 @@ use Rattle.std.proofs.lemmas.Option.{none-some}
 use Rattle.mv_base.specs.Memory.{Memory, exec_byte, exec_bytes}
 use Rattle.x86_insn.specs.declared.insn.Insn.{Insn}
 use Rattle.x86_insn.specs.Spelling.{spelled, decoded}
-use Rattle.x86_insn.specs.Laws.{limited_of, no_bytes, decoded_of, decoded_bounds}
+use Rattle.x86_insn.specs.Laws.{limited_of, no_bytes, decoded_of, decoded_alike, decoded_bounds}
 use Rattle.x86_insn.specs.Step.{Fetched, Absent, Found, Unknown, fetched, fetch_in, fetch}
 use Rattle.step_laws.specs.Standing.{Stands}
-
--- what is decoded depends on the front alone
-pub decoded_alike : (s t : List ℕ) (i : Insn) (n : ℕ) → decoded s ≡ Some (i, n) → take n t ≡ take n s → decoded t ≡ Some (i, n)
-decoded_alike s t i n h e =
-    let w = decoded_bounds s i n h in
-    let len : length (take n t) ≡ n = ap length e ∙ length-take-le n s w.2 in
-    decoded_of n t i (ap spelled e ∙ w.3) (omega (arith, len, length-take {A = ℕ} n t))
 
 -- ---- executable bytes
 
