@@ -1,5 +1,5 @@
 -- The plan as it is computed is the plan.
-use Rattle.std.proofs.Common.{◌≡◌, ℕ, ◌+◌, ◌*◌, ◌≤◌, List, [], ◌++◌, length, map, Option, sym, ap, ◌∙◌, subst}
+use Rattle.std.proofs.Common.{◌≡◌, ℕ, ◌+◌, ◌*◌, ◌≤◌, List, ◌++◌, length, map, Option, sym, ap, ◌∙◌, subst}
 use Rattle.std.proofs.lemmas.List.{length-map}
 use Rattle.mv_base.specs.declared.range.RunPlace.{RunPlace}
 use Rattle.elf32_read.specs.declared.run.Run.{Run}
@@ -12,70 +12,71 @@ use Rattle.map_table.specs.Paged.{table_bytes, table_size, Made, IsMade}
 use Rattle.map_table.specs.Paged as paged
 use Rattle.lookup_stub.specs.Stub.{stub}
 use Rattle.lookup_stub.specs.laws.StubBytes.{stub_length}
+use Rattle.counter_hooks.specs.declared.rules.Rule.{Rule}
 use Rattle.superset.specs.declared.site.Site.{Site}
 use Rattle.sequence_join.specs.declared.chain.Chain.{Chain}
 use Rattle.simulation_laws.specs.declared.anchors.Anchors.{Anchors}
 use Rattle.image_layout.specs.Layout.{stub_len, code_len, table_len, table_from, pairs_from, pairs, moved, run_places, anchors, code, plan}
 use Rattle.image_layout.specs.Parts.{parts, parts_len, entry}
-use Rattle.image_layout.specs.Pieces.{piece_len, piece_lens, chain_code}
+use Rattle.image_layout.specs.Pieces.{site_len, counted, code_lens, chain_code}
 use Rattle.image_layout.specs.Sites.{AreBelow}
 use Rattle.image_layout.specs.laws.SiteFacts.{site_address}
 use Rattle.image_layout.specs.laws.Pairing.{firsts_pairs}
 use Rattle.image_layout.specs.laws.LayFacts.{AreLaid, chains_below, chains_small, HasBase, made}
 
 -- what is known of the lengths
-pub length-lens : (ss : List Site) (lens : List ℕ) → lens ≡ piece_lens ss → length lens ≡ length ss
-length-lens ss lens e = ap length e ∙ length-map ss piece_len
+pub length-lens : (rule : Rule) (ss : List Site) (lens : List ℕ) → lens ≡ code_lens rule ss → length lens ≡ length ss
+length-lens rule ss lens e = ap length e ∙ length-map ss (site_len rule)
 
-pub lens_below : (rs : List Run) (ss : List Site) (cs : List Chain) (lens : List ℕ) → AreLaid rs ss cs → lens ≡ piece_lens ss → AreBelow (length lens) cs
-lens_below rs ss cs lens is e = subst (λ n. AreBelow n cs) (sym (length-lens ss lens e)) (chains_below rs ss cs is)
+pub lens_below : (rule : Rule) (rs : List Run) (ss : List Site) (cs : List Chain) (lens : List ℕ) → AreLaid rs ss cs → lens ≡ code_lens rule ss → AreBelow (length lens) cs
+lens_below rule rs ss cs lens is e = subst (λ n. AreBelow n cs) (sym (length-lens rule ss lens e)) (chains_below rs ss cs is)
 
-pub lens_small : (rs : List Run) (ss : List Site) (cs : List Chain) (lens : List ℕ) → AreLaid rs ss cs → lens ≡ piece_lens ss → parts_len lens (parts cs) ≤ 260 * 4194304
-lens_small rs ss cs lens is e = subst (λ (l : List ℕ). parts_len l (parts cs) ≤ 260 * 4194304) (sym e) (chains_small rs ss cs is)
+pub lens_small : (rule : Rule) (rs : List Run) (ss : List Site) (cs : List Chain) (lens : List ℕ) → AreLaid rs ss cs → lens ≡ code_lens rule ss → parts_len lens (parts cs) ≤ 260 * 4194304
+lens_small rule rs ss cs lens is e = subst (λ (l : List ℕ). parts_len l (parts cs) ≤ 260 * 4194304) (sym e) (chains_small rule rs ss cs is)
 
-pub lens_room : (cs : List Chain) (ss : List Site) (lens : List ℕ) → lens ≡ piece_lens ss → parts_len lens (parts cs) ≡ parts_len (piece_lens ss) (parts cs)
-lens_room cs ss lens e = ap (λ (l : List ℕ). parts_len l (parts cs)) e
+pub lens_room : (rule : Rule) (cs : List Chain) (ss : List Site) (lens : List ℕ) → lens ≡ code_lens rule ss → parts_len lens (parts cs) ≡ parts_len (code_lens rule ss) (parts cs)
+lens_room rule cs ss lens e = ap (λ (l : List ℕ). parts_len l (parts cs)) e
 
 -- what the table is made of
-pub made_is : (rs : List Run) (ss : List Site) (cs : List Chain) (is : AreLaid rs ss cs) (base n room : ℕ) (ps : List (ℕ × ℕ)) → HasBase rs ss cs is base → n ≡ stub_len rs → ps ≡ pairs_from ss cs (base + n) → room ≡ up (code_len rs ss cs) → IsMade (record { runs = rs; pairs = ps; lo = base + room })
-made_is rs ss cs is base n room ps has n_is pairs_are room_is =
-    let same : ps ≡ pairs rs ss cs base = pairs_are ∙ ap (λ m. pairs_from ss cs (base + m)) n_is in
+pub made_is : (rule : Rule) (rs : List Run) (ss : List Site) (cs : List Chain) (is : AreLaid rs ss cs) (base n room : ℕ) (ps : List (ℕ × ℕ)) → HasBase rule rs ss cs is base → n ≡ stub_len rs → ps ≡ pairs_from rule ss cs (base + n) → room ≡ up (code_len rule rs ss cs) → IsMade (record { runs = rs; pairs = ps; lo = base + room })
+made_is rule rs ss cs is base n room ps has n_is pairs_are room_is =
+    let same : ps ≡ pairs rule rs ss cs base = pairs_are ∙ ap (λ m. pairs_from rule ss cs (base + m)) n_is in
     subst (λ (l : List (ℕ × ℕ)). IsMade (record { runs = rs; pairs = l; lo = base + room })) (sym same)
-    (subst (λ m. IsMade (record { runs = rs; pairs = pairs rs ss cs base; lo = base + m })) (sym room_is) (made rs ss cs is base has))
+    (subst (λ m. IsMade (record { runs = rs; pairs = pairs rule rs ss cs base; lo = base + m })) (sym room_is) (made rule rs ss cs is base has))
 
 -- the code behind the stub
-pub code_is : (an : Anchors) (move : ℕ → ℕ) (bytes : ℕ → Option ℕ) (runs : List RunPlace) (ss : List Site) (cs : List Chain) (front new : List ℕ) → front ≡ stub 2 runs an.private → new ≡ front ++ chain_code an move bytes ss (an.stub + length front) cs → new ≡ code an move bytes runs ss cs
+pub code_is : (rule : Rule) (an : Anchors) (move : ℕ → ℕ) (bytes : ℕ → Option ℕ) (runs : List RunPlace) (ss : List Site) (cs : List Chain) (front new : List ℕ) → front ≡ stub 2 runs an.private → new ≡ front ++ chain_code rule an move bytes ss (an.stub + length front) cs → new ≡ code rule an move bytes runs ss cs
 unfolding code
-code_is an move bytes runs ss cs front new e h =
-    h ∙ (ap (λ (l : List ℕ). l ++ chain_code an move bytes ss (an.stub + length l) cs) e
-    ∙ ap (λ n. stub 2 runs an.private ++ chain_code an move bytes ss (an.stub + n) cs) (stub_length 2 runs an.private))
+code_is rule an move bytes runs ss cs front new e h =
+    h ∙ (ap (λ (l : List ℕ). l ++ chain_code rule an move bytes ss (an.stub + length l) cs) e
+    ∙ ap (λ n. stub 2 runs an.private ++ chain_code rule an move bytes ss (an.stub + n) cs) (stub_length 2 runs an.private))
 
 -- the parts of a plan, for these runs, sites and chains
-pub record HasParts (start : ℕ) (rs : List Run) (ss : List Site) (cs : List Chain) (p : Plan) : Type 0 where
+pub record HasParts (start : ℕ) (rule : Rule) (rs : List Run) (ss : List Site) (cs : List Chain) (p : Plan) : Type 0 where
   pub form_is : p.form ≡ Paged
-  pub code_is : p.code ≡ code (anchors rs ss cs p.base) (moved (pairs rs ss cs p.base)) (code_of rs) (run_places rs ss cs p.base) ss cs
-  pub table_is : p.table ≡ table_bytes rs (pairs rs ss cs p.base) (table_from rs ss cs p.base)
-  pub counted_is : p.counted ≡ []
-  pub runs_is : p.runs ≡ run_places rs ss cs p.base
-  pub entry_is : p.entry ≡ moved (pairs rs ss cs p.base) start
+  pub code_is : p.code ≡ code rule (anchors rule rs ss cs p.base) (moved (pairs rule rs ss cs p.base)) (code_of rs) (run_places rule rs ss cs p.base) ss cs
+  pub table_is : p.table ≡ table_bytes rs (pairs rule rs ss cs p.base) (table_from rule rs ss cs p.base)
+  pub counted_is : p.counted ≡ counted rule ss
+  pub runs_is : p.runs ≡ run_places rule rs ss cs p.base
+  pub entry_is : p.entry ≡ moved (pairs rule rs ss cs p.base) start
 
 -- and as they are computed
-pub has_parts : (start : ℕ) (rs : List Run) (ss : List Site) (cs : List Chain) (p : Plan) (n room private : ℕ) (t : Made) (ps : List (ℕ × ℕ)) (there : List RunPlace)
-    → n ≡ stub_len rs → room ≡ up (code_len rs ss cs) → ps ≡ pairs_from ss cs (p.base + n) → t ≡ record { runs = rs; pairs = ps; lo = p.base + room }
-    → there ≡ paged.places rs (p.base + room) → private ≡ up (table_size t.runs (firsts t.pairs))
-    → p.form ≡ Paged → p.code ≡ code (record { stub = p.base; private = p.base + room + private }) (moved t.pairs) (code_of rs) there ss cs
-    → p.table ≡ table_bytes t.runs t.pairs t.lo → p.counted ≡ [] → p.runs ≡ there → p.entry ≡ moved t.pairs start → HasParts start rs ss cs p
-has_parts start rs ss cs p n room private t ps there n_is room_is pairs_is t_is there_is private_is form_is code_is table_is counted_is runs_is entry_is =
+pub has_parts : (start : ℕ) (rule : Rule) (rs : List Run) (ss : List Site) (cs : List Chain) (p : Plan) (n room private : ℕ) (t : Made) (ps : List (ℕ × ℕ)) (there : List RunPlace)
+    → n ≡ stub_len rs → room ≡ up (code_len rule rs ss cs) → ps ≡ pairs_from rule ss cs (p.base + n) → t ≡ record { runs = rs; pairs = ps; lo = p.base + room }
+    → there ≡ paged.places rs (p.base + room) → private ≡ up (table_size t.runs (firsts t.pairs) + 4 * length (counted rule ss))
+    → p.form ≡ Paged → p.code ≡ code rule (record { stub = p.base; private = p.base + room + private }) (moved t.pairs) (code_of rs) there ss cs
+    → p.table ≡ table_bytes t.runs t.pairs t.lo → p.counted ≡ counted rule ss → p.runs ≡ there → p.entry ≡ moved t.pairs start → HasParts start rule rs ss cs p
+has_parts start rule rs ss cs p n room private t ps there n_is room_is pairs_is t_is there_is private_is form_is code_is table_is counted_is runs_is entry_is =
     let base = p.base in
     let runs_same : t.runs ≡ rs = ap (λ (m : Made). m.runs) t_is in
-    let pairs_same : t.pairs ≡ pairs rs ss cs base = ap (λ (m : Made). m.pairs) t_is ∙ (pairs_is ∙ ap (λ m. pairs_from ss cs (base + m)) n_is) in
-    let lo_same : t.lo ≡ table_from rs ss cs base = ap (λ (m : Made). m.lo) t_is ∙ ap (λ m. base + m) room_is in
-    let firsts_same : firsts t.pairs ≡ map site_address ss = ap firsts pairs_same ∙ firsts_pairs (entry (piece_lens ss) (base + stub_len rs) (parts cs)) 0 ss in
-    let private_same : private ≡ up (table_len rs ss) = private_is ∙ (λ i. up (table_size (runs_same i) (firsts_same i))) in
-    let there_same : there ≡ run_places rs ss cs base = there_is ∙ ap (λ m. paged.places rs (base + m)) room_is in
+    let pairs_same : t.pairs ≡ pairs rule rs ss cs base = ap (λ (m : Made). m.pairs) t_is ∙ (pairs_is ∙ ap (λ m. pairs_from rule ss cs (base + m)) n_is) in
+    let lo_same : t.lo ≡ table_from rule rs ss cs base = ap (λ (m : Made). m.lo) t_is ∙ ap (λ m. base + m) room_is in
+    let firsts_same : firsts t.pairs ≡ map site_address ss = ap firsts pairs_same ∙ firsts_pairs (entry (code_lens rule ss) (base + stub_len rs) (parts cs)) 0 ss in
+    let private_same : private ≡ up (table_len rule rs ss) = private_is ∙ (λ i. up (table_size (runs_same i) (firsts_same i) + 4 * length (counted rule ss))) in
+    let there_same : there ≡ run_places rule rs ss cs base = there_is ∙ ap (λ m. paged.places rs (base + m)) room_is in
     record {
       form_is = form_is;
-      code_is = code_is ∙ (λ i. code (record { stub = base; private = base + room_is i + private_same i }) (moved (pairs_same i)) (code_of rs) (there_same i) ss cs);
+      code_is = code_is ∙ (λ i. code rule (record { stub = base; private = base + room_is i + private_same i }) (moved (pairs_same i)) (code_of rs) (there_same i) ss cs);
       table_is = table_is ∙ (λ i. table_bytes (runs_same i) (pairs_same i) (lo_same i));
       counted_is = counted_is;
       runs_is = runs_is ∙ there_same;
@@ -83,7 +84,20 @@ has_parts start rs ss cs p n room private t ps there n_is room_is pairs_is t_is 
     }
 
 -- the plan field by field
-pub plan_is : (start : ℕ) (rs : List Run) (ss : List Site) (cs : List Chain) (p : Plan) → HasParts start rs ss cs p → p ≡ plan start rs ss cs p.base
+pub plan_is : (start : ℕ) (rule : Rule) (rs : List Run) (ss : List Site) (cs : List Chain) (p : Plan) → HasParts start rule rs ss cs p → p ≡ plan start rule rs ss cs p.base
 unfolding plan
-plan_is start rs ss cs p is =
+plan_is start rule rs ss cs p is =
     λ i. record { form = is.form_is i; base = p.base; code = is.code_is i; table = is.table_is i; counted = is.counted_is i; runs = is.runs_is i; entry = is.entry_is i }
+
+-- the sites that a plan counts
+pub counted_is : (start : ℕ) (rule : Rule) (rs : List Run) (ss : List Site) (cs : List Chain) (p : Plan) → p ≡ plan start rule rs ss cs p.base → p.counted ≡ counted rule ss
+unfolding plan
+counted_is start rule rs ss cs p e = ap (λ (q : Plan). q.counted) e
+
+-- the length of the table that is made
+pub table_is : (rule : Rule) (rs : List Run) (ss : List Site) (cs : List Chain) (base n room : ℕ) (ps : List (ℕ × ℕ)) (t : Made) → n ≡ stub_len rs → ps ≡ pairs_from rule ss cs (base + n) → t ≡ record { runs = rs; pairs = ps; lo = base + room } → table_size t.runs (firsts t.pairs) ≡ table_size rs (map site_address ss)
+table_is rule rs ss cs base n room ps t n_is pairs_is t_is =
+    let runs_same : t.runs ≡ rs = ap (λ (m : Made). m.runs) t_is in
+    let firsts_same : firsts t.pairs ≡ map site_address ss =
+    ap (λ (m : Made). firsts m.pairs) t_is ∙ (ap firsts pairs_is ∙ firsts_pairs (entry (code_lens rule ss) (base + n) (parts cs)) 0 ss) in
+    λ i. table_size (runs_same i) (firsts_same i)

@@ -1,18 +1,24 @@
 -- Code part by part: what is written, and what is still to be written.
-use Rattle.std.proofs.Common.{◌≡◌, ℕ, ◌+◌, ◌<◌, ◌≤◌, List, [], ◌∷◌, ◌++◌, length, get_or, drop, Option, Some, None, refl, sym, ap, ◌∙◌, arith}
-use Rattle.std.specs.Prelude.{slice_index}
+use Rattle.std.proofs.Common.{◌≡◌, ℕ, ◌+◌, ◌*◌, ◌<◌, ◌≤◌, cond, List, [], ◌∷◌, ◌++◌, length, get_or, drop, map, Option, Some, None, refl, sym, ap, ◌∙◌, subst, arith}
+use Rattle.std.specs.Prelude.{IfSome, slice_get, slice_index}
 use Rattle.std.proofs.lemmas.List.{length-append, append_assoc, append-nil}
 use Rattle.std.proofs.lemmas.List.Concat.{flat_map-append}
 use Rattle.std.proofs.lemmas.Option.{slice_get-get_or}
+use Rattle.map_table.specs.Pairs.{Ascend}
+use Rattle.counter_hooks.specs.declared.rules.Rule.{Rule}
+use Rattle.counter_hooks.specs.Rules.{picked}
 use Rattle.superset.specs.declared.site.Site.{Site}
 use Rattle.sequence_join.specs.declared.chain.Chain.{Chain}
 use Rattle.simulation_laws.specs.declared.anchors.Anchors.{Anchors}
-use Rattle.simulation_laws.specs.Pieces.{piece}
+use Rattle.simulation_laws.specs.Pieces.{counter_code, counted_piece}
 use Rattle.image_layout.specs.Parts.{Part, Piece, Join, join_parts, link_parts, chain_parts, parts, part_len, parts_len, placed}
-use Rattle.image_layout.specs.Pieces as pieces
-use Rattle.image_layout.specs.Pieces.{piece_len, piece_lens, part_bytes, bytes_of}
+use Rattle.image_layout.specs.Measuring.{AreRanks}
+use Rattle.image_layout.specs.Pieces.{counters, code_lens, site_code, part_bytes, bytes_of}
+use Rattle.image_layout.specs.Sites.{AreWhole}
 use Rattle.image_layout.specs.laws.Placing.{placed-append, length-code_at}
-use Rattle.image_layout.specs.laws.Sizes.{lens_at}
+use Rattle.image_layout.specs.laws.SiteFacts.{site_address}
+use Rattle.image_layout.specs.laws.Sizes.{lens_at, part_sized}
+use Rattle.image_layout.specs.laws.Counters.{rank_most, counter_is, counter_sized}
 use Rattle.image_layout.proofs.Steps.{links_rest, links_none, chains_rest}
 
 module _ (lens : List ℕ) (bytes : ℕ → Part → List ℕ) (stub : ℕ) where
@@ -76,10 +82,36 @@ module _ (lens : List ℕ) (bytes : ℕ → Part → List ℕ) (stub : ℕ) wher
   pub put_nothing : (ks : List ℕ) (i : ℕ) (next : Option ℕ) (now : List ℕ) → length ks ≤ i → next ≡ None → now ≡ now ++ bytes_of bytes (placed lens (stub + length now) (link_parts (drop i ks) next))
   put_nothing ks i next now le e = put_all now now (link_parts (drop i ks) next) (links_none ks i next le ∙ ap join_parts e) refl
 
--- ---- the piece of a site of an index
+-- ---- the code of a site of an index
 
-pub site_piece : (an : Anchors) (move : ℕ → ℕ) (code : ℕ → Option ℕ) (ss : List Site) (here k : ℕ) (d : Site) (p : List ℕ) → k < length ss → p ≡ piece an move code here (get_or ss k d) → p ≡ part_bytes an move code ss here (Piece k)
-site_piece an move code ss here k d p lt is = is ∙ sym (ap (pieces.piece_of an move code here) (slice_get-get_or ss k d lt))
+pub there_is : (P : Site → Type 0) (ss : List Site) (k : ℕ) (d : Site) → k < length ss → IfSome (slice_get ss k) P → P (get_or ss k d)
+there_is P ss k d lt h = subst (λ (o : Option Site). IfSome o P) (slice_get-get_or ss k d lt) h
 
-pub site_size : (ss : List Site) (k : ℕ) (d : Site) (p : List ℕ) → k < length ss → length p ≡ piece_len (get_or ss k d) → length p ≡ slice_index (piece_lens ss) k
-site_size ss k d p lt is = is ∙ sym (lens_at ss k (get_or ss k d) (slice_get-get_or ss k d lt))
+-- no rank is above the number of sites
+pub rank_low : (rule : Rule) (ss : List Site) (ranks : List ℕ) (k : ℕ) → AreRanks rule ss ranks → k < length ss → slice_index ranks k ≤ length ss
+rank_low rule ss ranks k are lt = omega (arith, are.are k lt, rank_most rule ss k)
+
+module _ (rule : Rule) (an : Anchors) (ss : List Site) (asc : Ascend 0 (map site_address ss)) (ranks : List ℕ) (are : AreRanks rule ss ranks) (k : ℕ) (d : Site) (lt : k < length ss) where
+  abbrev s : Site
+  s = get_or ss k d
+
+  there : slice_get ss k ≡ Some (get_or ss k d)
+  there = slice_get-get_or ss k d lt
+
+  module _ (place : Option ℕ) (place_is : place ≡ cond (picked rule (get_or ss k d)) (Some (an.private + 64 + 8 * slice_index ranks k)) None) where
+    place_there : place ≡ counters rule an ss s.at
+    place_there = place_is ∙ (ap (λ n. cond (picked rule s) (Some (an.private + 64 + 8 * n)) None) (are.are k lt) ∙ sym (counter_is rule (an.private + 64) 0 ss k s asc there))
+
+    -- the counter has no more bytes than the site's code
+    pub counter_low : length (counter_code an place) ≤ slice_index (code_lens rule ss) k
+    counter_low = omega (arith, ap (λ (o : Option ℕ). length (counter_code an o)) place_there, counter_sized rule an 0 ss k s asc there, lens_at rule ss k s there)
+
+    pub site_piece : (move : ℕ → ℕ) (code : ℕ → Option ℕ) (here : ℕ) (p : List ℕ) → p ≡ counted_piece an move code place here s → p ≡ part_bytes an move code (counters rule an ss) ss here (Piece k)
+    site_piece move code here p is =
+        is
+        ∙ (ap (λ (o : Option ℕ). counted_piece an move code o here s) place_there
+        ∙ sym (ap (site_code an move code (counters rule an ss) here) there))
+
+-- parts have their lengths where sites ascend and are whole
+pub sized_parts : (rule : Rule) (an : Anchors) (move : ℕ → ℕ) (code : ℕ → Option ℕ) (ss : List Site) → AreWhole code ss → Ascend 0 (map site_address ss) → (here : ℕ) (p : Part) → length (part_bytes an move code (counters rule an ss) ss here p) ≡ part_len (code_lens rule ss) p
+sized_parts rule an move code ss whole asc here p = part_sized rule an move code (counters rule an ss) ss whole (λ k s e. counter_sized rule an 0 ss k s asc e) here p

@@ -1,15 +1,18 @@
 -- Chains link by link and one by one: how long they are, and where their parts stand.
 use Rattle.std.proofs.Common.{◌≡◌, ℕ, zero, suc, ◌+◌, ◌<◌, ◌≤◌, Bool, cond, eqb, List, [], ◌∷◌, ◌++◌, length, get_or, set, take, drop, map, Option, Some, None, refl, sym, ap, ◌∙◌, subst, inl, inr, arith}
 use Rattle.std.specs.Prelude.{slice_index}
-use Rattle.std.proofs.lemmas.Bool.{eq-eqb, ne_eqb, cases_eq}
-use Rattle.std.proofs.lemmas.List.{append-nil, drop_more, drop_all, get_or-set_same, get_or-set_other, take_more, take_all, map-append, get_or_default}
+use Rattle.std.proofs.lemmas.Bool.{eq-eqb, ne_eqb, cases_eq, cases_lt}
+use Rattle.std.proofs.lemmas.List.{append-nil, drop_more, drop_all, get_or-set_same, get_or-set_other, take_more, take_all, map_more, get_or_default, get_or_append_left, get_or-append-add}
+use Rattle.counter_hooks.specs.declared.rules.Rule.{Rule}
+use Rattle.counter_hooks.specs.Rules.{picked}
 use Rattle.superset.specs.declared.site.Site.{Site}
 use Rattle.sequence_join.specs.declared.chain.Chain.{Chain}
 use Rattle.image_layout.specs.Parts.{Part, Piece, join_parts, link_parts, chain_parts, parts, parts_len, placed, place_or}
-use Rattle.image_layout.specs.Pieces.{piece_len, piece_lens}
+use Rattle.image_layout.specs.Pieces.{counted, site_len, code_lens}
 use Rattle.image_layout.specs.Layout.{pairs_by}
 use Rattle.image_layout.specs.Sites.{LinksBelow, AreBelow}
 use Rattle.image_layout.specs.laws.SiteFacts.{site_address}
+use Rattle.image_layout.specs.laws.Counters.{counted_more}
 use Rattle.image_layout.specs.laws.Placing.{parts_len-append, placed-append, place_or-append}
 
 -- ---- lengths
@@ -116,13 +119,27 @@ pub place_chains_end : (lens es : List ℕ) (cs : List Chain) (i here k : ℕ) �
 unfolding placed place_or
 place_chains_end lens es cs i here k le = ap (λ (l : List Chain). place_or (slice_index es k) (placed lens here (parts l)) k) (drop_all i cs le)
 
--- ---- lengths of pieces
+-- ---- what is known of sites, one by one
 
-pub lens_step : (ss : List Site) (k : ℕ) (s : Site) (now new : List ℕ) → k < length ss → s ≡ get_or ss k s → now ≡ piece_lens (take k ss) → new ≡ now ++ piece_len s ∷ [] → new ≡ piece_lens (take (k + 1) ss)
-lens_step ss k s now new lt e h p =
-    p ∙ (ap (λ (t : List ℕ). t ++ piece_len s ∷ []) h
-    ∙ (ap (λ (x : Site). piece_lens (take k ss) ++ piece_len x ∷ []) e
-    ∙ sym (ap (map piece_len) (take_more ss k s lt) ∙ map-append piece_len (take k ss) (get_or ss k s ∷ []))))
+pub lens_step : (rule : Rule) (ss : List Site) (k : ℕ) (d : Site) (n : ℕ) (now new : List ℕ) → k < length ss → n ≡ site_len rule (get_or ss k d) → now ≡ code_lens rule (take k ss) → new ≡ now ++ n ∷ [] → new ≡ code_lens rule (take (k + 1) ss)
+lens_step rule ss k d n now new lt is h p =
+    p ∙ (ap (λ (t : List ℕ). t ++ n ∷ []) h ∙ (ap (λ m. code_lens rule (take k ss) ++ m ∷ []) is ∙ sym (map_more (site_len rule) ss k d lt)))
+
+pub ranks_step : (f : ℕ → ℕ) (now new : List ℕ) (i n : ℕ) → length now ≡ i → n ≡ f i → ((k : ℕ) → k < i → slice_index now k ≡ f k) → new ≡ now ++ n ∷ [] → (k : ℕ) → k < i + 1 → slice_index new k ≡ f k
+ranks_step f now new i n len is h p k lt =
+    elim (cases_lt k i) [
+      | inl l ↦ ap (λ (xs : List ℕ). slice_index xs k) p ∙ (get_or_append_left now (n ∷ []) 0 k (omega (arith, l, len)) ∙ h k l)
+      | inr l ↦
+          let last : k ≡ i = omega (arith, l, lt) in
+          let place : k ≡ length now + 0 = omega (arith, last, len) in
+          ap (λ (xs : List ℕ). slice_index xs k) p ∙ (ap (slice_index (now ++ n ∷ [])) place ∙ (get_or-append-add now (n ∷ []) 0 0 ∙ (is ∙ ap f (sym last))))
+    ]
+
+pub counted_step : (rule : Rule) (ss : List Site) (k : ℕ) (d : Site) (t : Bool) (now new : List ℕ) → k < length ss → t ≡ picked rule (get_or ss k d) → now ≡ counted rule (take k ss) → new ≡ now ++ cond t ((get_or ss k d).at ∷ []) [] → new ≡ counted rule (take (k + 1) ss)
+counted_step rule ss k d t now new lt is h p =
+    p ∙ (ap (λ (l : List ℕ). l ++ cond t ((get_or ss k d).at ∷ []) []) h
+    ∙ (ap (λ (u : Bool). counted rule (take k ss) ++ cond u ((get_or ss k d).at ∷ []) []) is
+    ∙ sym (counted_more rule ss k d lt)))
 
 -- a list that is written over whole
 pub whole_slice : (old new : List ℕ) (n : ℕ) → n ≡ length old → length new ≡ length old → take n (new ++ drop (length new) old) ≡ new

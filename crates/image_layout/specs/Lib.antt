@@ -4,6 +4,7 @@ pub mod Fit
 pub mod Sites
 pub mod Parts
 pub mod Pieces
+pub mod Measuring
 pub mod Layout
 pub mod Laying
 pub mod InPlace

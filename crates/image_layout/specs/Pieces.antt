@@ -1,16 +1,19 @@
--- The bytes of the parts that stand behind the stub, and how many the piece of a site has. This project's own.
-use Rattle.std.specs.Prelude.{ℕ, List, [], map, Option, Some, None, slice_get}
-use Rattle.std.specs.List.{flat_map}
+-- The bytes of the parts that stand behind the stub, and how many the code of a site has: its counter, where a rule picks
+-- it, and its piece. This project's own.
+use Rattle.std.specs.Prelude.{ℕ, ◌+◌, ◌*◌, Bool, List, [], length, map, take, Option, Some, None, slice_get, if◌then◌else◌}
+use Rattle.std.specs.List.{filter, flat_map}
 use Rattle.x86_insn.specs.declared.insn.Flow.{Flow}
 use Rattle.x86_insn.specs.declared.insn.Flow.TheVariants.{Plain, Jump, Branch, Count, Call, JumpVia, CallVia, Return, Trap, System}
 use Rattle.x86_insn.specs.Flow.{flow_of}
 use Rattle.step_laws.specs.Jumps.{jump_bytes}
 use Rattle.branch_lengthen.specs.Near.{near_size}
 use Rattle.call_rewrite.specs.Far.{far_size, load_of}
+use Rattle.counter_hooks.specs.declared.rules.Rule.{Rule}
+use Rattle.counter_hooks.specs.Rules.{picked}
 use Rattle.superset.specs.declared.site.Site.{Site}
 use Rattle.sequence_join.specs.declared.chain.Chain.{Chain}
 use Rattle.simulation_laws.specs.declared.anchors.Anchors.{Anchors}
-use Rattle.simulation_laws.specs.Pieces.{piece}
+use Rattle.simulation_laws.specs.Pieces.{counter_in, counted_piece}
 use Rattle.image_layout.specs.Parts.{Part, Piece, Join, parts, placed}
 
 -- how many bytes the piece of a site has, by its flow
@@ -29,23 +32,48 @@ len_by Count s = near_size Count s.len
 abbrev pub piece_len : Site → ℕ
 piece_len s = len_by (flow_of s.insn) s
 
-abbrev pub piece_lens : List Site → List ℕ
-piece_lens ss = map piece_len ss
+-- ---- counters
 
--- the piece of a site, if there is one
-abbrev pub piece_of : Anchors → (ℕ → ℕ) → (ℕ → Option ℕ) → ℕ → Option Site → List ℕ
-piece_of anchors move code here None = []
-piece_of anchors move code here (Some s) = piece anchors move code here s
+-- the addresses of the sites that a rule picks, in the order of the sites
+abbrev pub counted : Rule → List Site → List ℕ
+counted rule ss = map (λ s. s.at) (filter (picked rule) ss)
+
+-- how many of them stand before the site of index k
+abbrev pub rank : Rule → List Site → ℕ → ℕ
+rank rule ss k = length (counted rule (take k ss))
+
+-- where the counter of an address is: the counters stand behind the first 64 bytes of the private area
+abbrev pub counters : Rule → Anchors → List Site → ℕ → Option ℕ
+counters rule anchors ss = counter_in (anchors.private + 64) (counted rule ss)
+
+-- how many bytes a site's counter has
+abbrev pub counter_len : Bool → ℕ
+counter_len is_picked = if is_picked then 46 else 0
+
+-- how many bytes the code of a site has
+abbrev pub site_len : Rule → Site → ℕ
+site_len rule s = counter_len (picked rule s) + piece_len s
+
+abbrev pub code_lens : Rule → List Site → List ℕ
+code_lens rule ss = map (site_len rule) ss
+
+-- ---- bytes
+
+-- the code of a site, if there is one, where place says where the counter of an address is
+abbrev pub site_code : Anchors → (ℕ → ℕ) → (ℕ → Option ℕ) → (ℕ → Option ℕ) → ℕ → Option Site → List ℕ
+site_code anchors move code place here None = []
+site_code anchors move code place here (Some s) = counted_piece anchors move code (place s.at) here s
 
 -- the bytes of a part that stands at an address, where move says to where an address is moved
-abbrev pub part_bytes : Anchors → (ℕ → ℕ) → (ℕ → Option ℕ) → List Site → ℕ → Part → List ℕ
-part_bytes anchors move code ss here (Piece k) = piece_of anchors move code here (slice_get ss k)
-part_bytes anchors move code ss here (Join to) = jump_bytes here (move to)
+abbrev pub part_bytes : Anchors → (ℕ → ℕ) → (ℕ → Option ℕ) → (ℕ → Option ℕ) → List Site → ℕ → Part → List ℕ
+part_bytes anchors move code place ss here (Piece k) = site_code anchors move code place here (slice_get ss k)
+part_bytes anchors move code place ss here (Join to) = jump_bytes here (move to)
 
 -- the bytes of parts, each at its place
 abbrev pub bytes_of : (ℕ → Part → List ℕ) → List (ℕ × Part) → List ℕ
 bytes_of bytes qs = flat_map (λ q. bytes q.0 q.1) qs
 
 -- the chains of sites as they stand from an address on
-unfoldable pub chain_code : Anchors → (ℕ → ℕ) → (ℕ → Option ℕ) → List Site → ℕ → List Chain → List ℕ
-chain_code anchors move code ss here cs = bytes_of (part_bytes anchors move code ss) (placed (piece_lens ss) here (parts cs))
+unfoldable pub chain_code : Rule → Anchors → (ℕ → ℕ) → (ℕ → Option ℕ) → List Site → ℕ → List Chain → List ℕ
+chain_code rule anchors move code ss here cs =
+    bytes_of (part_bytes anchors move code (counters rule anchors ss) ss) (placed (code_lens rule ss) here (parts cs))

@@ -5,6 +5,7 @@ pub mod Following
 pub mod Sizes
 pub mod SiteFacts
 pub mod Pairing
+pub mod Counters
 pub mod Blocks
 pub mod Counting
 pub mod LayFacts

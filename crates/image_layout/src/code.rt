@@ -1,18 +1,22 @@
-//! The bytes of chains: pieces and joins, each for the address at which it comes to stand.
+//! The bytes of chains: counters, pieces and joins, each for the address at which it comes to stand.
 
-ghost use Rattle.std.specs.Prelude.{◌≡◌, ◌+◌, ◌^◌, ◌<◌, ◌≤◌, ◌++◌, ◌-◌, ◌⊎◌, length, drop, IfOk, OnOk, IfSome, IfNone};
+ghost use Rattle.std.specs.Prelude.{◌≡◌, ◌+◌, ◌*◌, ◌^◌, ◌<◌, ◌≤◌, ◌++◌, ◌-◌, ◌⊎◌, length, drop, map, Some, None, IfOk, OnOk, IfSome, IfNone, if◌then◌else◌};
 ghost use Rattle.std.specs.List.{All};
 ghost use Rattle.mv_base.specs.Memory.{exec_bytes};
 ghost use Rattle.elf32_read.specs.Runs.{code_of, AreApart};
+ghost use Rattle.map_table.specs.Pairs.{Ascend};
 ghost use Rattle.step_laws.specs.Jumps.{jump_bytes};
-ghost use Rattle.simulation_laws.specs.Pieces.{piece as piece_of};
+ghost use Rattle.counter_hooks.specs.Rules.{picked};
+ghost use Rattle.simulation_laws.specs.Pieces.{piece as piece_of, counter_code, counted_piece};
 ghost use Rattle.image_layout.specs.Layout.{moved as moved_of};
+ghost use Rattle.image_layout.specs.Measuring.{AreRanks};
 ghost use Rattle.image_layout.specs.Parts.{chain_parts, parts, parts_len, placed};
-ghost use Rattle.image_layout.specs.Pieces.{piece_len, piece_lens, part_bytes, bytes_of, chain_code};
+ghost use Rattle.image_layout.specs.Pieces.{piece_len, counters, code_lens, part_bytes, bytes_of, chain_code};
 ghost use Rattle.image_layout.specs.Sites.{AreShort, AreWhole, AreBelow, IsShort, IsWhole};
 
 use crate::layout::moved;
 use branch_lengthen::join_piece;
+use counter_hooks::{Hooks, Question, counter_piece};
 use elf32_read::Run;
 use map_table::Table;
 use mv_base::NoMemory;
@@ -21,64 +25,96 @@ use simulation_laws::{Anchors, piece_bytes};
 use std::alloc::Global;
 use superset::{Piece, Site, target};
 
+/// How many bytes of the private area stand before the counters, and how many a counter has.
+const FIRST_COUNTER: u32 = 64;
+
+const COUNTER_ROOM: u32 = 8;
+
 /// Appends the chains of sites to code whose first byte stands at `anchors.stub`. The bytes of the sites are those of the
-/// runs, and the table says where an address now is.
+/// runs, and the table says where an address now is. It asks the hooks once a site, and `ranks` says how many counted sites
+/// stand before each.
 ///
 /// # Errors
 ///
 /// `NoMemory`.
-pub fn put_chains(
+pub fn put_chains<F: Question>(
     runs: &[Run],
     table: &Table<'_>,
     sites: &[Site],
     chains: &[Chain],
+    hooks: &Hooks<F>,
+    ranks: &[u32],
     anchors: Anchors,
     code: &mut Vec<u8>,
 ) -> Result<(), NoMemory>
     requires apart { AreApart 0 runs.now }
     requires short { AreShort sites.now }
     requires whole { AreWhole (code_of runs.now) sites.now }
+    requires ascend { Ascend 0 (map (λ s. s.at) sites.now) }
     requires below { AreBelow (length sites.now) chains.now }
+    requires ranks { AreRanks hooks.now sites.now ranks.now }
+    requires counters { anchors.private + 64 + 8 * length sites.now < 2 ^ 32 }
     requires room { anchors.stub + length code.old.items
-        + parts_len (piece_lens sites.now) (parts chains.now) < 2 ^ 32 }
+        + parts_len (code_lens hooks.now sites.now) (parts chains.now) < 2 ^ 32 }
     ensures { OnOk result (code.new.items ≡ code.old.items
-        ++ chain_code anchors (moved_of table.now.pairs) (code_of runs.now) sites.now
+        ++ chain_code hooks.now anchors (moved_of table.now.pairs) (code_of runs.now) sites.now
         (anchors.stub + length code.old.items) chains.now) }
 {
     for chain in chains {
-        put_chain(runs, table, sites, chain, anchors, code)?;
+        put_chain(runs, table, sites, chain, hooks, ranks, anchors, code)?;
     }
     Ok(())
 }
 
 /// Appends a chain of sites.
-fn put_chain(
+fn put_chain<F: Question>(
     runs: &[Run],
     table: &Table<'_>,
     sites: &[Site],
     chain: &Chain,
+    hooks: &Hooks<F>,
+    ranks: &[u32],
     anchors: Anchors,
     code: &mut Vec<u8>,
 ) -> Result<(), NoMemory>
     requires apart { AreApart 0 runs.now }
     requires short { AreShort sites.now }
     requires whole { AreWhole (code_of runs.now) sites.now }
+    requires ascend { Ascend 0 (map (λ s. s.at) sites.now) }
     requires below { All (λ k. k < length sites.now) chain.now.links }
+    requires ranks { AreRanks hooks.now sites.now ranks.now }
+    requires counters { anchors.private + 64 + 8 * length sites.now < 2 ^ 32 }
     requires room { anchors.stub + length code.old.items
-        + parts_len (piece_lens sites.now) (chain_parts chain.now) < 2 ^ 32 }
+        + parts_len (code_lens hooks.now sites.now) (chain_parts chain.now) < 2 ^ 32 }
     ensures { OnOk result (code.new.items ≡ code.old.items
-        ++ bytes_of (part_bytes anchors (moved_of table.now.pairs) (code_of runs.now) sites.now)
-        (placed (piece_lens sites.now) (anchors.stub + length code.old.items)
+        ++ bytes_of (part_bytes anchors (moved_of table.now.pairs) (code_of runs.now)
+        (counters hooks.now anchors sites.now) sites.now)
+        (placed (code_lens hooks.now sites.now) (anchors.stub + length code.old.items)
         (chain_parts chain.now))) }
 {
     for link in chain.links.as_slice() {
+        let index = *link as usize;
+        let site = &sites[index];
+        let place = counter_place(hooks, site, ranks[index], anchors.private);
         let here = anchors.stub + code.len() as u32;
-        let piece = piece(runs, table, &sites[*link as usize], anchors, here);
+        let piece = site_code(runs, table, site, place, anchors, here);
         code.extend_from_slice(piece.as_slice())?;
     }
     match chain.next {
         Some(next) => put_join(table, next, anchors, code),
         None => Ok(()),
+    }
+}
+
+/// Where the counter of a site is that has so many counted sites before it; `None` where it isn't counted.
+fn counter_place<F: Question>(hooks: &Hooks<F>, site: &Site, rank: u32, private: u32) -> Option<u32>
+    requires { private + 64 + 8 * rank < 2 ^ 32 }
+    ensures { result ≡ (if picked hooks.now site.now then Some (private + 64 + 8 * rank) else None) }
+{
+    if hooks.asks(site) {
+        Some(private + FIRST_COUNTER + COUNTER_ROOM * rank)
+    } else {
+        None
     }
 }
 
@@ -96,6 +132,32 @@ fn put_join(
     let here = anchors.stub + code.len() as u32;
     code.extend_from_slice(join_piece(here, moved(table, to)).as_slice())?;
     Ok(())
+}
+
+/// The code of a site that stands at `here`: its counter, where it has one at `place`, and its piece.
+fn site_code(
+    runs: &[Run],
+    table: &Table<'_>,
+    site: &Site,
+    place: Option<u32>,
+    anchors: Anchors,
+    here: u32,
+) -> Piece
+    requires apart { AreApart 0 runs.now }
+    requires short { IsShort site.now }
+    requires whole { IsWhole (code_of runs.now) site.now }
+    requires room { here + length (counter_code anchors place) < 2 ^ 32 }
+    ensures { result ≡ counted_piece anchors (moved_of table.now.pairs) (code_of runs.now) place here
+        site.now }
+{
+    match place {
+        Some(counter) => {
+            let front = counter_piece(anchors.private, counter);
+            let piece = piece(runs, table, site, anchors, here + front.len() as u32);
+            front.and(piece.as_slice())
+        }
+        None => piece(runs, table, site, anchors, here),
+    }
 }
 
 /// The piece of a site that stands at `here`.

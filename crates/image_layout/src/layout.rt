@@ -6,6 +6,7 @@ ghost use Rattle.elf32_read.specs.Runs.{code_of, AreApart};
 ghost use Rattle.elf32_write.specs.Format.{up as up_of};
 ghost use Rattle.map_table.specs.Paged.{places as places_of, AreRuns};
 ghost use Rattle.lookup_stub.specs.Stub.{stub_size};
+ghost use Rattle.counter_hooks.specs.Rules.{Ascend};
 ghost use Rattle.superset.specs.Sites.{sites_in};
 ghost use Rattle.sequence_join.specs.Chains.{order, EachOnce, IsLinked};
 ghost use Rattle.image_layout.specs.Fit.{first_fit as first_fit_of};
@@ -13,26 +14,33 @@ ghost use Rattle.image_layout.specs.InPlace.{HasPieces};
 ghost use Rattle.image_layout.specs.Laying.{IsLaid, LaysOut};
 ghost use Rattle.image_layout.specs.Layout.{size as size_of, pairs_from as pairs_of, moved as moved_of};
 ghost use Rattle.image_layout.specs.Parts.{parts, parts_len};
-ghost use Rattle.image_layout.specs.Pieces.{piece_lens as piece_lens_of};
+ghost use Rattle.image_layout.specs.Measuring.{IsMeasured};
+ghost use Rattle.image_layout.specs.Pieces.{code_lens as code_lens_of};
 ghost use Rattle.image_layout.specs.Room.{ArePagesApart};
 ghost use Rattle.image_layout.specs.Sites.{AreShort, AreWhole, AreBelow};
 
 use crate::code::put_chains;
-use crate::places::{chains_len, entries, pairs, piece_lens};
+use crate::places::{Measured, chains_len, entries, measure, pairs};
 use crate::room::first_fit;
+use counter_hooks::{Hooks, Question};
 use elf32_read::{Image, Run};
 use elf32_write::{Form, Plan, RunPlaces};
 use lookup_stub::{stub, stub_len};
 use map_table::{Table, table_len};
-use mv_base::{Addrs, Bytes, NoMemory, RunPlace};
+use mv_base::{Bytes, NoMemory, RunPlace};
 use sequence_join::Chain;
 use simulation_laws::Anchors;
 use std::alloc::Global;
 use superset::Site;
 use thiserror::Error;
 
-/// How many bytes the private area has without counters.
+/// How many bytes the private area has without counters, and how many a counter has.
 const PRIVATE_LEN: u64 = 64;
+
+const COUNTER_ROOM: u64 = 8;
+
+/// How many bytes a counted site has in the list behind the table.
+const LISTED_LEN: u64 = 4;
 
 /// Why a file isn't laid out: no place has room for its block, which has this many bytes, or want of memory.
 #[derive(Debug, Drop, Error)]
@@ -54,42 +62,50 @@ impl From<NoMemory> for LayFault {
     }
 }
 
-/// What is added to a file: the block at the lowest place that has room, with the stub, the chains behind it and the
-/// table of form 2. `admit` takes the image, and the runs, sites and chains are those of its file. The work is linear in the
-/// sites, but for the look-up of an address in the table.
+/// What is added to a file: the block at the lowest place that has room, with the stub, the chains behind it, the table of
+/// form 2, the list of the sites that the hooks count, and the private area with their counters. `admit` takes the image,
+/// and the runs, sites and chains are those of its file. It asks the hooks twice a site: once for lengths, once for
+/// bytes. The work is linear in the sites, but for the look-up of an address in the table.
 ///
 /// # Errors
 ///
 /// `NoRoom` with the block's size exactly where no place has room for it; `NoMemory`.
-pub fn lay(
+pub fn lay<F: Question>(
     alloc: Global,
     image: &Image,
     runs: &[Run],
     sites: &[Site],
     chains: &[Chain],
+    hooks: &Hooks<F>,
 ) -> Result<Plan, LayFault>
     requires apart { ArePagesApart 0 image.now.segments }
     requires runs { AreRuns runs.now }
     requires sites { sites.now ≡ sites_in (code_of runs.now) runs.now }
     requires once { EachOnce (length sites.now) (order chains.now) }
     requires linked { AllByRecursion (IsLinked sites.now) chains.now }
-    ensures laid { LaysOut image.now runs.now sites.now chains.now result }
-    ensures in_place { IfOk result (λ plan. HasPieces runs.now sites.now chains.now plan) }
+    ensures laid { LaysOut image.now hooks.now runs.now sites.now chains.now result }
+    ensures in_place { IfOk result (λ plan.
+        HasPieces hooks.now runs.now sites.now chains.now plan) }
+    ensures ascends { IfOk result (λ plan. Ascend plan.counted) }
 {
-    let lens = piece_lens(alloc, sites)?;
-    let code_room = up(stub_len(runs.len()) as u64 + chains_len(chains, &lens));
+    let measured = measure(alloc, sites, hooks)?;
+    let code_len = stub_len(runs.len()) as u64 + chains_len(chains, measured.lens.as_slice());
     let sites_at = addresses(alloc, sites)?;
-    let table_room = up(u64::from(table_len(runs, &sites_at)));
-    let size = code_room + table_room + up(PRIVATE_LEN);
+    let counters = measured.counted.len() as u64;
+    let table_len = u64::from(table_len(runs, &sites_at)) + LISTED_LEN * counters;
+    let size = up(code_len) + up(table_len) + up(PRIVATE_LEN + COUNTER_ROOM * counters);
     match first_fit(image, size) {
-        Some(base) => Ok(lay_at(alloc, image, runs, sites, chains, &lens, base)?),
+        Some(base) => {
+            let plan = lay_at(alloc, image, runs, sites, chains, hooks, measured, base)?;
+            Ok(plan)
+        }
         None => Err(LayFault::NoRoom(size)),
     }
 }
 
 /// A number raised to a multiple of 4,096.
 fn up(n: u64) -> u64
-    requires { n ≤ 2 ^ 32 }
+    requires { n ≤ 2 ^ 33 }
     ensures { result ≡ up_of n }
 {
     (n + 4095) / 4096 * 4096
@@ -137,62 +153,83 @@ pub fn moved(table: &Table<'_>, address: u32) -> u32
 }
 
 /// Each site's address with its entry, where the chains begin at `first`.
-fn entry_pairs(
+fn entry_pairs<F: Question>(
     alloc: Global,
     sites: &[Site],
     chains: &[Chain],
+    _hooks: &Hooks<F>,
     lens: &[u8],
     first: u32,
 ) -> Result<Vec<(u32, u32)>, NoMemory>
-    requires lens_are { lens.now ≡ piece_lens_of sites.now }
+    requires lens_are { lens.now ≡ code_lens_of _hooks.now sites.now }
     requires below { AreBelow (length sites.now) chains.now }
     requires room { first + parts_len lens.now (parts chains.now) < 2 ^ 32 }
-    ensures { IfOk result (λ found. found.items ≡ pairs_of sites.now chains.now first) }
+    ensures { IfOk result (λ found.
+        found.items ≡ pairs_of _hooks.now sites.now chains.now first) }
 {
     let entries = entries(alloc, chains, lens, first)?;
     pairs(alloc, sites, &entries)
 }
 
 /// What is added to a file, where the block lies at `base`.
-fn lay_at(
+fn lay_at<F: Question>(
     alloc: Global,
     image: &Image,
     runs: &[Run],
     sites: &[Site],
     chains: &[Chain],
-    lens: &[u8],
+    hooks: &Hooks<F>,
+    measured: Measured,
     base: u32,
 ) -> Result<Plan, NoMemory>
     requires runs { AreRuns runs.now }
     requires sites { sites.now ≡ sites_in (code_of runs.now) runs.now }
     requires once { EachOnce (length sites.now) (order chains.now) }
     requires linked { AllByRecursion (IsLinked sites.now) chains.now }
-    requires lens_are { lens.now ≡ piece_lens_of sites.now }
-    requires base_is { first_fit_of image.now.segments (size_of runs.now sites.now chains.now)
+    requires measured { IsMeasured hooks.now sites.now measured }
+    requires base_is { first_fit_of image.now.segments (size_of hooks.now runs.now sites.now chains.now)
         ≡ Some base }
-    ensures laid { IfOk result (λ plan. IsLaid image.now runs.now sites.now chains.now plan) }
-    ensures in_place { IfOk result (λ plan. HasPieces runs.now sites.now chains.now plan) }
+    ensures laid { IfOk result (λ plan.
+        IsLaid image.now hooks.now runs.now sites.now chains.now plan) }
+    ensures in_place { IfOk result (λ plan.
+        HasPieces hooks.now runs.now sites.now chains.now plan) }
 {
+    let Measured {
+        lens,
+        ranks,
+        counted,
+    } = measured;
     let stub_len = stub_len(runs.len());
-    let chains_len = chains_len(chains, lens);
-    let pairs = entry_pairs(alloc, sites, chains, lens, base + stub_len as u32)?;
+    let chains_len = chains_len(chains, lens.as_slice());
+    let first = base + stub_len as u32;
+    let pairs = entry_pairs(alloc, sites, chains, hooks, lens.as_slice(), first)?;
     let lo = base + up(stub_len as u64 + chains_len) as u32;
     let table = Table::build(alloc, runs, &pairs, lo)?;
     let run_places = run_places(alloc, runs, table.dirs(), lo)?;
+    let table_len = table.bytes().len() as u64 + LISTED_LEN * counted.len() as u64;
     let anchors = Anchors {
         stub: base,
-        private: lo + up(table.bytes().len() as u64) as u32,
+        private: lo + up(table_len) as u32,
     };
     let mut code = stub(alloc, &run_places, anchors.private)?;
     code.reserve(chains_len as usize)?;
-    put_chains(runs, &table, sites, chains, anchors, &mut code)?;
+    put_chains(
+        runs,
+        &table,
+        sites,
+        chains,
+        hooks,
+        ranks.as_slice(),
+        anchors,
+        &mut code,
+    )?;
     let entry = moved(&table, image.entry);
     Ok(Plan {
         form: Form::Paged,
         base,
         code: Bytes::new(code),
         table: table.into_bytes(),
-        counted: Addrs::new(Vec::new(alloc)),
+        counted,
         runs: RunPlaces::new(run_places),
         entry,
     })

@@ -1,15 +1,18 @@
-//! Where the pieces of sites stand, by their lengths alone.
+//! Where the code of sites stands, by its lengths alone.
 
 ghost use Rattle.std.specs.Prelude.{◌≡◌, ℕ, ◌+◌, ◌<◌, ◌≤◌, ◌^◌, length, slice_index, IfOk};
+ghost use Rattle.counter_hooks.specs.Rules.{picked};
 ghost use Rattle.std.specs.List.{All};
 ghost use Rattle.image_layout.specs.Layout.{pairs_by};
 ghost use Rattle.image_layout.specs.Parts.{chain_parts, parts, parts_len, placed, place_or, entry};
-ghost use Rattle.image_layout.specs.Pieces.{piece_len as piece_len_of, piece_lens as piece_lens_of};
+ghost use Rattle.image_layout.specs.Measuring.{IsMeasured};
+ghost use Rattle.image_layout.specs.Pieces.{piece_len as piece_len_of, site_len as site_len_of, counter_len as counter_len_of};
 ghost use Rattle.image_layout.specs.Sites.{AreShort, IsShort, AreBelow};
 
 use branch_lengthen::near_len;
 use call_rewrite::far_len;
-use mv_base::NoMemory;
+use counter_hooks::{Hooks, Question, counter_len};
+use mv_base::{Addrs, Bytes, NoMemory};
 use sequence_join::Chain;
 use std::alloc::Global;
 use superset::Site;
@@ -18,26 +21,64 @@ use x86_insn::Flow;
 /// How many bytes a join has.
 const JOIN_LEN: u32 = 5;
 
-/// How many bytes the pieces of sites have, site by site.
+/// What is known of sites before they have places: how many bytes the code of each has, how many counted sites stand
+/// before each, and the addresses of the counted sites.
+#[derive(Drop)]
+pub struct Measured {
+    pub lens: Bytes,
+    pub ranks: Addrs,
+    pub counted: Addrs,
+}
+
+/// What is known of sites before they have places. It asks the hooks once a site.
 ///
 /// # Errors
 ///
 /// `NoMemory`.
-pub fn piece_lens(alloc: Global, sites: &[Site]) -> Result<Vec<u8>, NoMemory>
-    requires { AreShort sites.now }
-    ensures { IfOk result (λ lens. lens.items ≡ piece_lens_of sites.now) }
+pub fn measure<F: Question>(
+    alloc: Global,
+    sites: &[Site],
+    hooks: &Hooks<F>,
+) -> Result<Measured, NoMemory>
+    requires short { AreShort sites.now }
+    requires few { length sites.now < 2 ^ 32 }
+    ensures { IfOk result (IsMeasured hooks.now sites.now) }
 {
     let mut lens = Vec::with_capacity(alloc, sites.len())?;
+    let mut ranks = Vec::with_capacity(alloc, sites.len())?;
+    let mut counted = Vec::new(alloc);
     for site in sites {
-        lens.push(piece_len(site))?;
+        let is_counted = hooks.asks(site);
+        lens.push(site_len(site, is_counted))?;
+        ranks.push(counted.len() as u32)?;
+        if is_counted {
+            counted.push(site.at)?;
+        }
     }
-    Ok(lens)
+    Ok(Measured {
+        lens: Bytes::new(lens),
+        ranks: Addrs::new(ranks),
+        counted: Addrs::new(counted),
+    })
+}
+
+/// How many bytes the code of a site has, where it is counted or not.
+fn site_len(site: &Site, is_counted: bool) -> u8
+    requires { IsShort site.now }
+    ensures { result ≡ counter_len_of is_counted + piece_len_of site.now }
+{
+    if is_counted {
+        counter_len() as u8 + piece_len(site)
+    } else {
+        piece_len(site)
+    }
 }
 
 /// How many bytes the piece of a site has.
 fn piece_len(site: &Site) -> u8
     requires { IsShort site.now }
-    ensures { result ≡ piece_len_of site.now }
+    ensures is { result ≡ piece_len_of site.now }
+    ensures few { result ≤ 32 }
 {
     match site.insn.next_kind() {
         Flow::Plain | Flow::System | Flow::Trap => site.len,
@@ -51,7 +92,7 @@ fn piece_len(site: &Site) -> u8
     }
 }
 
-/// How many bytes chains have, by the lengths of the sites' pieces.
+/// How many bytes chains have, by the lengths of the sites' code.
 pub fn chains_len(chains: &[Chain], lens: &[u8]) -> u64
     requires below { AreBelow (length lens.now) chains.now }
     requires room { parts_len lens.now (parts chains.now) < 2 ^ 32 }

@@ -6,24 +6,27 @@ use Rattle.std.proofs.lemmas.Option.{none-some}
 use Rattle.elf32_read.specs.declared.image.Segment.{Segment}
 use Rattle.elf32_read.specs.declared.run.Run.{Run}
 use Rattle.elf32_read.specs.Runs.{code_of}
-use Rattle.elf32_write.specs.Format.{up}
+use Rattle.elf32_write.specs.Format.{up, private_len}
 use Rattle.elf32_write.specs.Written.{up-le}
 use Rattle.map_table.specs.Pairs.{entry_in, Ascend, IsPair}
 use Rattle.map_table.specs.Paged.{table_size, AreRuns, IsMade}
+use Rattle.counter_hooks.specs.declared.rules.Rule.{Rule}
 use Rattle.superset.specs.declared.site.Site.{Site}
 use Rattle.superset.specs.Sites.{sites_in}
 use Rattle.sequence_join.specs.declared.chain.Chain.{Chain}
 use Rattle.sequence_join.specs.Chains.{order, EachOnce, IsLinked}
+use Rattle.simulation_laws.specs.declared.anchors.Anchors.{Anchors}
 use Rattle.image_layout.specs.Fit.{first_fit}
 use Rattle.image_layout.specs.Layout.{stub_len, code_len, table_len, size, pairs, pairs_from, table_from}
 use Rattle.image_layout.specs.Parts.{parts, parts_len, entry}
-use Rattle.image_layout.specs.Pieces.{piece_lens}
+use Rattle.image_layout.specs.Pieces.{counted, counters, code_lens}
 use Rattle.image_layout.specs.Sites.{AreBelow}
-use Rattle.image_layout.specs.laws.Sizes.{lens_most}
+use Rattle.image_layout.specs.laws.Sizes.{lens_most, AreCounted}
 use Rattle.image_layout.specs.laws.Placing.{has_place}
 use Rattle.image_layout.specs.laws.Following.{single, there, below}
 use Rattle.image_layout.specs.laws.SiteFacts.{is_site_at, site_is, site_address, sites_ascend, sites_count, are_short}
 use Rattle.image_layout.specs.laws.Pairing.{firsts_pairs, all_pairs, entry_at_most}
+use Rattle.image_layout.specs.laws.Counters.{counted_most, counter_sized}
 use Rattle.image_layout.specs.laws.Counting.{length-once, parts_most}
 use Rattle.image_layout.specs.laws.Blocks.{room_at}
 
@@ -41,9 +44,6 @@ index_low (q ∷ ss) zero s e = omega arith
 index_low (q ∷ ss) (suc k) s e = omega (arith, index_low ss k s e)
 
 module _ (rs : List Run) (ss : List Site) (cs : List Chain) (is : AreLaid rs ss cs) where
-  abbrev lens : List ℕ
-  lens = piece_lens ss
-
   pub below_low : (k : ℕ) (s : Site) → slice_get ss k ≡ Some s → k < length ss
   below_low k s e = index_low ss k s e
 
@@ -53,13 +53,24 @@ module _ (rs : List Run) (ss : List Site) (cs : List Chain) (is : AreLaid rs ss 
   pub ascend : Ascend 0 (map site_address ss)
   ascend = sites_ascend rs ss is.sites is.runs.apart
 
-  pub chains_small : parts_len lens (parts cs) ≤ 260 * 4194304
-  chains_small =
-      let most : (k : ℕ) → slice_index lens k ≤ 255 = λ k. omega (arith, lens_most ss (are_short rs ss is.sites) k) in
-      omega (arith, parts_most ss lens cs is.linked most, length-once (length ss) (order cs) is.once, count)
-
   pub chains_below : AreBelow (length ss) cs
   chains_below = below (length ss) cs is.once
+
+-- and by a rule
+module _ (rule : Rule) (rs : List Run) (ss : List Site) (cs : List Chain) (is : AreLaid rs ss cs) where
+  abbrev lens : List ℕ
+  lens = code_lens rule ss
+
+  pub counted_few : length (counted rule ss) ≤ 4194304
+  counted_few = omega (arith, counted_most rule ss, count rs ss cs is)
+
+  pub counters_are : (an : Anchors) → AreCounted rule an (counters rule an ss) ss
+  counters_are an k s e = counter_sized rule an 0 ss k s (ascend rs ss cs is) e
+
+  pub chains_small : parts_len lens (parts cs) ≤ 260 * 4194304
+  chains_small =
+      let most : (k : ℕ) → slice_index lens k ≤ 255 = λ k. omega (arith, lens_most rule ss (are_short rs ss is.sites) k) in
+      omega (arith, parts_most ss lens cs is.linked most, length-once (length ss) (order cs) is.once, count rs ss cs is)
 
   -- a place in the chains
   pub record HasEntry (first k : ℕ) : Type 0 where
@@ -71,19 +82,19 @@ module _ (rs : List Run) (ss : List Site) (cs : List Chain) (is : AreLaid rs ss 
       let w = has_place lens (parts cs) first k (single (length ss) cs is.once) (there (length ss) k cs is.once lt) in
       record { low = omega (arith, w.place 0); high = omega (arith, w.place 0, w.room) }
 
-  pub pairs_are : (first : ℕ) → 0 < first → first + parts_len lens (parts cs) < 2 ^ 32 → AllByRecursion (IsPair rs) (pairs_from ss cs first)
+  pub pairs_are : (first : ℕ) → 0 < first → first + parts_len lens (parts cs) < 2 ^ 32 → AllByRecursion (IsPair rs) (pairs_from rule ss cs first)
   pairs_are first some fits = all_pairs rs (entry lens first (parts cs)) 0 ss one
     where
       one : (k : ℕ) (s : Site) → slice_get ss k ≡ Some s → IsPair rs (s.at, entry lens first (parts cs) (0 + k))
       one k s e =
           let same : 0 + k ≡ k = omega arith in
-          let h = has_entry first k (below_low k s e) in
+          let h = has_entry first k (below_low rs ss cs is k s e) in
           let q = is_site_at (code_of rs) s.at s (site_is rs ss is.sites k s e) in
           subst (λ n. IsPair rs (s.at, entry lens first (parts cs) n)) (sym same)
           (record { inside = subst (λ (o : Option ℕ). IsSome o) (sym q.starts.1) refl; some = omega (arith, h.low, some); fits = omega (arith, h.high, fits) })
 
   -- no entry is above the end of the code
-  pub entry_most : (base a : ℕ) → entry_in (pairs rs ss cs base) a ≤ base + code_len rs ss cs
+  pub entry_most : (base a : ℕ) → entry_in (pairs rule rs ss cs base) a ≤ base + code_len rule rs ss cs
   entry_most base a =
       let first = base + stub_len rs in
       let most : (k : ℕ) → k < length ss → entry lens first (parts cs) (0 + k) ≤ first + parts_len lens (parts cs) =
@@ -96,24 +107,24 @@ module _ (rs : List Run) (ss : List Site) (cs : List Chain) (is : AreLaid rs ss 
   -- the block's parts end below 2^32
   pub record HasBase (base : ℕ) : Type 0 where
     pub some : 0 < base
-    pub low : base + up (code_len rs ss cs) + up (table_len rs ss) + 4096 ≤ 0xB0000000
+    pub low : base + up (code_len rule rs ss cs) + up (table_len rule rs ss) + up (private_len (length (counted rule ss))) ≤ 0xB0000000
 
-  pub size_is : size rs ss cs ≡ up (code_len rs ss cs) + up (table_len rs ss) + 4096
+  pub size_is : size rule rs ss cs ≡ up (code_len rule rs ss cs) + up (table_len rule rs ss) + up (private_len (length (counted rule ss)))
   unfolding size
   size_is = refl
 
-  pub has_base : (segs : List Segment) (base : ℕ) → first_fit segs (size rs ss cs) ≡ Some base → HasBase base
+  pub has_base : (segs : List Segment) (base : ℕ) → first_fit segs (size rule rs ss cs) ≡ Some base → HasBase base
   has_base segs base e =
-      let room = room_at segs (size rs ss cs) base e in
+      let room = room_at segs (size rule rs ss cs) base e in
       record { some = omega (arith, room.at, room.from); low = omega (arith, room.low, size_is) }
 
-  pub made : (base : ℕ) → HasBase base → IsMade (record { runs = rs; pairs = pairs rs ss cs base; lo = table_from rs ss cs base })
+  pub made : (base : ℕ) → HasBase base → IsMade (record { runs = rs; pairs = pairs rule rs ss cs base; lo = table_from rule rs ss cs base })
   made base room =
       let first = base + stub_len rs in
       let firsts_are = firsts_pairs (entry lens first (parts cs)) 0 ss in
       record {
         runs = is.runs;
-        ascend = subst (λ (l : List ℕ). Ascend 0 l) (sym firsts_are) ascend;
-        pairs = pairs_are first (omega (arith, room.some)) (omega (arith, room.low, up-le (code_len rs ss cs)));
-        room = omega (arith, room.low, up-le (table_len rs ss), ap (table_size rs) firsts_are);
+        ascend = subst (λ (l : List ℕ). Ascend 0 l) (sym firsts_are) (ascend rs ss cs is);
+        pairs = pairs_are first (omega (arith, room.some)) (omega (arith, room.low, up-le (code_len rule rs ss cs)));
+        room = omega (arith, room.low, up-le (table_len rule rs ss), ap (table_size rs) firsts_are);
       }

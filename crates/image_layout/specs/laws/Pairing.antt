@@ -17,7 +17,7 @@ firsts_pairs place j [] = refl
 firsts_pairs place j (s ∷ ss) = ap (λ (t : List ℕ). s.at ∷ t) (firsts_pairs place (j + 1) ss)
 
 -- a site that stands later has a later address
-address_low : (from : ℕ) (ss : List Site) (k : ℕ) (s : Site) → Ascend from (map site_address ss) → slice_get ss k ≡ Some s → from ≤ s.at
+pub address_low : (from : ℕ) (ss : List Site) (k : ℕ) (s : Site) → Ascend from (map site_address ss) → slice_get ss k ≡ Some s → from ≤ s.at
 address_low from [] k s asc e = absurd (none-some s e)
 address_low from (q ∷ ss) zero s asc e = omega (arith, asc.0, ap site_address (same_Some q s e))
 address_low from (q ∷ ss) (suc k) s asc e = omega (arith, asc.0, address_low (q.at + 1) ss k s asc.1 e)

@@ -1,6 +1,7 @@
--- How many bytes pieces and joins have.
-use Rattle.std.proofs.Common.{◌≡◌, ℕ, zero, suc, ◌<◌, ◌≤◌, List, [], ◌∷◌, length, Option, Some, None, refl, sym, ap, ◌∙◌, subst, arith}
+-- How many bytes counters, pieces and joins have.
+use Rattle.std.proofs.Common.{◌≡◌, ℕ, zero, suc, ◌+◌, ◌<◌, Bool, true, false, ◌≤◌, List, [], ◌∷◌, length, Option, Some, None, refl, sym, ap, ◌∙◌, subst, arith}
 use Rattle.std.specs.Prelude.{slice_get, slice_index, IfSome}
+use Rattle.std.proofs.lemmas.List.{length-append}
 use Rattle.std.proofs.lemmas.Option.{none-some, same_Some}
 use Rattle.x86_insn.specs.declared.insn.Flow.{Flow}
 use Rattle.x86_insn.specs.declared.insn.Flow.TheVariants as flow
@@ -12,12 +13,13 @@ use Rattle.branch_lengthen.specs.Near.{near_bytes, near_size}
 use Rattle.branch_lengthen.specs.laws.Branches.{branch_len, count_len}
 use Rattle.call_rewrite.specs.Far.{far_size, load_of}
 use Rattle.call_rewrite.specs.laws.Lengths.{far_sized}
+use Rattle.counter_hooks.specs.declared.rules.Rule.{Rule}
+use Rattle.counter_hooks.specs.Rules.{picked}
 use Rattle.superset.specs.declared.site.Site.{Site}
 use Rattle.simulation_laws.specs.declared.anchors.Anchors.{Anchors}
-use Rattle.simulation_laws.specs.Pieces.{successor, target, piece_of, piece}
+use Rattle.simulation_laws.specs.Pieces.{successor, target, piece_of, piece, counter_code, counted_piece}
 use Rattle.image_layout.specs.Parts.{Part, Piece, Join, part_len}
-use Rattle.image_layout.specs.Pieces as pieces
-use Rattle.image_layout.specs.Pieces.{len_by, piece_len, piece_lens, part_bytes}
+use Rattle.image_layout.specs.Pieces.{len_by, piece_len, counter_len, site_len, code_lens, site_code, part_bytes}
 use Rattle.image_layout.specs.Sites.{IsShort, AreShort, IsWhole, AreWhole}
 use Rattle.simulation_laws.specs.laws.Loading.{far_most}
 
@@ -59,12 +61,18 @@ by_flow flow.Return an move code here s e is = far_sized (load_of s.insn) s.insn
 pub piece_sized : (an : Anchors) (move : ℕ → ℕ) (code : ℕ → Option ℕ) (here : ℕ) (s : Site) → IsWhole code s → length (piece an move code here s) ≡ piece_len s
 piece_sized an move code here s is = by_flow (flow_of s.insn) an move code here s refl is
 
-pub lens_at : (ss : List Site) (k : ℕ) (s : Site) → slice_get ss k ≡ Some s → slice_index (piece_lens ss) k ≡ piece_len s
-lens_at [] k s e = absurd (none-some s e)
-lens_at (q ∷ ss) zero s e = ap piece_len (same_Some q s e)
-lens_at (q ∷ ss) (suc k) s e = lens_at ss k s e
+-- a site's code has its length, where its counter has
+pub site_sized : (rule : Rule) (an : Anchors) (move : ℕ → ℕ) (code : ℕ → Option ℕ) (place : Option ℕ) (here : ℕ) (s : Site) → IsWhole code s → length (counter_code an place) ≡ counter_len (picked rule s) → length (counted_piece an move code place here s) ≡ site_len rule s
+site_sized rule an move code place here s is counter =
+    let behind = here + length (counter_code an place) in
+    omega (arith, length-append (counter_code an place) (piece an move code behind s), counter, piece_sized an move code behind s is)
 
--- and at most 32 bytes
+pub lens_at : (rule : Rule) (ss : List Site) (k : ℕ) (s : Site) → slice_get ss k ≡ Some s → slice_index (code_lens rule ss) k ≡ site_len rule s
+lens_at rule [] k s e = absurd (none-some s e)
+lens_at rule (q ∷ ss) zero s e = ap (site_len rule) (same_Some q s e)
+lens_at rule (q ∷ ss) (suc k) s e = lens_at rule ss k s e
+
+-- a piece has at most 32 bytes
 by_flow_most : (f : Flow) (s : Site) → IsShort s → len_by f s ≤ 32
 by_flow_most flow.Plain s is = omega (arith, is.short)
 by_flow_most flow.System s is = omega (arith, is.short)
@@ -77,26 +85,37 @@ by_flow_most flow.JumpVia s is = omega (arith, far_sized (load_of s.insn) s.insn
 by_flow_most flow.CallVia s is = omega (arith, far_sized (load_of s.insn) s.insn 0 0 0 0, far_most (load_of s.insn) s.insn 0 0 0 0 is.load)
 by_flow_most flow.Return s is = omega (arith, far_sized (load_of s.insn) s.insn 0 0 0 0, far_most (load_of s.insn) s.insn 0 0 0 0 is.load)
 
-lens_past : (ss : List Site) (k : ℕ) → slice_get ss k ≡ None → slice_index (piece_lens ss) k ≡ 0
-lens_past [] k e = refl
-lens_past (q ∷ ss) zero e = absurd (none-some q (sym e))
-lens_past (q ∷ ss) (suc k) e = lens_past ss k e
+pub piece_most : (s : Site) → IsShort s → piece_len s ≤ 32
+piece_most s is = by_flow_most (flow_of s.insn) s is
 
-most_at : (ss : List Site) (k : ℕ) (o : Option Site) → slice_get ss k ≡ o → IfSome o IsShort → slice_index (piece_lens ss) k ≤ 32
-most_at ss k None e is = omega (arith, lens_past ss k e)
-most_at ss k (Some s) e is = omega (arith, lens_at ss k s e, by_flow_most (flow_of s.insn) s is)
+lens_past : (rule : Rule) (ss : List Site) (k : ℕ) → slice_get ss k ≡ None → slice_index (code_lens rule ss) k ≡ 0
+lens_past rule [] k e = refl
+lens_past rule (q ∷ ss) zero e = absurd (none-some q (sym e))
+lens_past rule (q ∷ ss) (suc k) e = lens_past rule ss k e
 
-pub lens_most : (ss : List Site) → AreShort ss → (k : ℕ) → slice_index (piece_lens ss) k ≤ 32
-lens_most ss short k = most_at ss k (slice_get ss k) refl (short k)
+counter_most : (t : Bool) → counter_len t ≤ 46
+counter_most true = omega arith
+counter_most false = omega arith
 
-piece_at : (an : Anchors) (move : ℕ → ℕ) (code : ℕ → Option ℕ) (ss : List Site) (here k : ℕ) (o : Option Site) → slice_get ss k ≡ o → IfSome o (IsWhole code) → length (pieces.piece_of an move code here o) ≡ slice_index (piece_lens ss) k
-piece_at an move code ss here k None e is = sym (lens_past ss k e)
-piece_at an move code ss here k (Some s) e is = piece_sized an move code here s is ∙ sym (lens_at ss k s e)
+most_at : (rule : Rule) (ss : List Site) (k : ℕ) (o : Option Site) → slice_get ss k ≡ o → IfSome o IsShort → slice_index (code_lens rule ss) k ≤ 78
+most_at rule ss k None e is = omega (arith, lens_past rule ss k e)
+most_at rule ss k (Some s) e is = omega (arith, lens_at rule ss k s e, counter_most (picked rule s), by_flow_most (flow_of s.insn) s is)
+
+pub lens_most : (rule : Rule) (ss : List Site) → AreShort ss → (k : ℕ) → slice_index (code_lens rule ss) k ≤ 78
+lens_most rule ss short k = most_at rule ss k (slice_get ss k) refl (short k)
+
+-- the counters of sites have as many bytes as is said of the sites
+abbrev pub AreCounted : Rule → Anchors → (ℕ → Option ℕ) → List Site → Type 0
+AreCounted rule an place ss = (k : ℕ) (s : Site) → slice_get ss k ≡ Some s → length (counter_code an (place s.at)) ≡ counter_len (picked rule s)
+
+code_at : (rule : Rule) (an : Anchors) (move : ℕ → ℕ) (code place : ℕ → Option ℕ) (ss : List Site) → AreCounted rule an place ss → (here k : ℕ) (o : Option Site) → slice_get ss k ≡ o → IfSome o (IsWhole code) → length (site_code an move code place here o) ≡ slice_index (code_lens rule ss) k
+code_at rule an move code place ss are here k None e is = sym (lens_past rule ss k e)
+code_at rule an move code place ss are here k (Some s) e is = site_sized rule an move code (place s.at) here s is (are k s e) ∙ sym (lens_at rule ss k s e)
 
 -- and each part the length that is said of it
-pub part_sized : (an : Anchors) (move : ℕ → ℕ) (code : ℕ → Option ℕ) (ss : List Site) → AreWhole code ss → (here : ℕ) (p : Part) → length (part_bytes an move code ss here p) ≡ part_len (piece_lens ss) p
-part_sized an move code ss whole here (Piece k) = piece_at an move code ss here k (slice_get ss k) refl (whole k)
-part_sized an move code ss whole here (Join to) = jump_len here (move to)
+pub part_sized : (rule : Rule) (an : Anchors) (move : ℕ → ℕ) (code place : ℕ → Option ℕ) (ss : List Site) → AreWhole code ss → AreCounted rule an place ss → (here : ℕ) (p : Part) → length (part_bytes an move code place ss here p) ≡ part_len (code_lens rule ss) p
+part_sized rule an move code place ss whole are here (Piece k) = code_at rule an move code place ss are here k (slice_get ss k) refl (whole k)
+part_sized rule an move code place ss whole are here (Join to) = jump_len here (move to)
 
 -- ---- no piece is empty
 
@@ -132,5 +151,8 @@ some_by flow.JumpVia s e some = far_some (load_of s.insn) s.insn (subst IsFar (s
 some_by flow.CallVia s e some = far_some (load_of s.insn) s.insn (subst IsFar (sym e) tt)
 some_by flow.Return s e some = far_some (load_of s.insn) s.insn (subst IsFar (sym e) tt)
 
-pub piece_some_by : (s : Site) → 0 < s.len → 0 < piece_len s
+piece_some_by : (s : Site) → 0 < s.len → 0 < piece_len s
 piece_some_by s some = some_by (flow_of s.insn) s refl some
+
+pub site_some_by : (rule : Rule) (s : Site) → 0 < s.len → 0 < site_len rule s
+site_some_by rule s some = omega (arith, piece_some_by s some)

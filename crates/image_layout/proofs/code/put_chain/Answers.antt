@@ -1,54 +1,91 @@
-use Rattle.std.proofs.Common.{◌≡◌, ℕ, ◌+◌, ◌<◌, ◌++◌, List, length, ap, sym, ◌∙◌, subst, arith}
+use Rattle.std.proofs.Common.{◌≡◌, ℕ, ◌+◌, ◌<◌, ◌++◌, List, length, get_or, ap, sym, ◌∙◌, subst, arith}
 use Rattle.std.specs.List.{All}
 use Rattle.std.proofs.lemmas.List.{length-append}
 use Rattle.std.proofs.lemmas.Result.{on_ok_weaker}
 use Rattle.step_laws.specs.laws.NearJump.{jump_len}
 use Rattle.elf32_read.specs.Runs.{code_of}
 use Rattle.image_layout.specs.Layout.{moved}
-use Rattle.image_layout.specs.Parts.{link_parts, parts_len, placed}
-use Rattle.image_layout.specs.Pieces.{piece_lens, part_bytes, bytes_of}
+use Rattle.image_layout.specs.Parts.{Piece, link_parts, parts_len, placed}
+use Rattle.image_layout.specs.Pieces.{counters, code_lens, part_bytes, bytes_of}
+use Rattle.image_layout.specs.Sites.{IsShort, IsWhole}
 use Rattle.image_layout.proofs.Steps.{links_step, links_end, join_some}
-use Rattle.image_layout.proofs.Putting.{put_link, put_join, put_nothing, site_piece, site_size}
+use Rattle.image_layout.proofs.Putting.{put_link, put_join, put_nothing, there_is, rank_low, counter_low, site_piece, sized_parts}
 use Rattle.image_layout.proofs.code.put_chain.Goals as goal
 
+pub counter_place-place-requires : goal.counter_place-place-requires
+counter_place-place-requires g c =
+    let low = subst (λ (l : List ℕ). All (λ k. k < length c.args.sites.now) l) (sym c.as_slice-link-items.ensures) c.requires.below in
+    omega (arith, c.requires.counters, rank_low c.args.hooks.now c.args.sites.now c.args.ranks.now _ c.requires.ranks (low c.loop-link.link-index 0 c.loop-link-test.true))
+
+pub site_code-piece-requires-clause-short : goal.site_code-piece-requires-clause-short
+site_code-piece-requires-clause-short g c =
+    let low = subst (λ (l : List ℕ). All (λ k. k < length c.args.sites.now) l) (sym c.as_slice-link-items.ensures) c.requires.below in
+    there_is IsShort c.args.sites.now _ _ (low c.loop-link.link-index 0 c.loop-link-test.true) (c.requires.short _)
+
+pub site_code-piece-requires-clause-whole : goal.site_code-piece-requires-clause-whole
+site_code-piece-requires-clause-whole g c =
+    let low = subst (λ (l : List ℕ). All (λ k. k < length c.args.sites.now) l) (sym c.as_slice-link-items.ensures) c.requires.below in
+    there_is (IsWhole (code_of c.args.runs.now)) c.args.sites.now _ _ (low c.loop-link.link-index 0 c.loop-link-test.true) (c.requires.whole _)
+
+pub site_code-piece-requires-clause-room : goal.site_code-piece-requires-clause-room
+site_code-piece-requires-clause-room g c =
+    let lens = code_lens c.args.hooks.now c.args.sites.now in
+    let next = c.args.chain.now.next in
+    let low = subst (λ (l : List ℕ). All (λ k. k < length c.args.sites.now) l) (sym c.as_slice-link-items.ensures) c.requires.below in
+    let below = low c.loop-link.link-index 0 c.loop-link-test.true in
+    omega (
+      arith,
+      c.requires.room,
+      c.len.ensures,
+      c.loop-link.code.ok.0,
+      c.loop-link.invariant.room,
+      counter_low c.args.hooks.now c.args.anchors c.args.sites.now c.requires.ascend c.args.ranks.now c.requires.ranks _ _ below c.counter_place-place.result c.counter_place-place.ensures,
+      links_step lens c.as_slice-link-items.result.now c.loop-link.link-index next c.loop-link-test.true,
+      ap (λ (l : List ℕ). parts_len lens (link_parts l next)) c.as_slice-link-items.ensures,
+    )
+
 pub loop-link-preserved : goal.loop-link-preserved
-loop-link-preserved c =
+loop-link-preserved g c =
+    let rule = c.args.hooks.now in
+    let an = c.args.anchors in
     let ss = c.args.sites.now in
-    let lens = piece_lens ss in
+    let lens = code_lens rule ss in
     let ks = c.as_slice-link-items.result.now in
     let i = c.loop-link.link-index in
     let next = c.args.chain.now.next in
     let move : ℕ → ℕ = moved c.args.table.now.pairs in
-    let bytes = part_bytes c.args.anchors move (code_of c.args.runs.now) ss in
+    let code = code_of c.args.runs.now in
+    let bytes = part_bytes an move code (counters rule an ss) ss in
     let low = subst (λ (l : List ℕ). All (λ k. k < length ss) l) (sym c.as_slice-link-items.ensures) c.requires.below in
     let below = low i 0 c.loop-link-test.true in
-    let here = c.args.anchors.stub + length c.loop-link.code.items in
-    let p = c.piece-piece.result in
+    let p = c.site_code-piece.result in
     let now = c.loop-link.code.items in
     let new = c.extend_from_slice.new.self.items in
-    let here_is : c.args.anchors.stub + c.len.result ≡ c.args.anchors.stub + length now = omega (arith, c.len.ensures, c.loop-link.code.ok.0) in
+    let here_is : an.stub + c.len.result ≡ an.stub + length now = omega (arith, c.len.ensures, c.loop-link.code.ok.0) in
     let new_is = c.in_ok-extend_from_slice.ensures.items ∙ ap (λ (l : List ℕ). now ++ l) c.as_slice.ensures in
-    let size = site_size ss _ _ p below c.piece-piece.ensures.size in
+    let own = site_piece rule an ss c.requires.ascend c.args.ranks.now c.requires.ranks (get_or ks i 0) _ below c.counter_place-place.result c.counter_place-place.ensures move code (an.stub + c.len.result) p c.site_code-piece.ensures in
+    let size = ap (λ (l : List ℕ). length l) own ∙ sized_parts rule an move code ss c.requires.whole c.requires.ascend (an.stub + c.len.result) (Piece (get_or ks i 0)) in
     record {
-      whole = put_link lens bytes c.args.anchors.stub ks i next now new p (c.args.anchors.stub + c.len.result) c.loop-link-test.true here_is (site_piece c.args.anchors move (code_of c.args.runs.now) ss _ _ _ p below c.piece-piece.ensures.bytes) size new_is ∙ c.loop-link.invariant.whole;
+      whole = put_link lens bytes an.stub ks i next now new p (an.stub + c.len.result) c.loop-link-test.true here_is own size new_is ∙ c.loop-link.invariant.whole;
       room = omega (arith, ap (λ (l : List ℕ). length l) new_is, length-append now p, size, links_step lens ks i next c.loop-link-test.true, c.loop-link.invariant.room);
     }
 
 pub put_join-requires : goal.put_join-requires
-put_join-requires c =
-    let lens = piece_lens c.args.sites.now in
+put_join-requires g c =
+    let lens = code_lens c.args.hooks.now c.args.sites.now in
     let next = c.args.chain.now.next in
     omega (arith, c.requires.room, c.loop-link.invariant.room, links_end lens c.as_slice-link-items.result.now c.loop-link.link-index next c.loop-link-test.false, join_some lens next _ c.in-Some.is, ap (λ (l : List ℕ). parts_len lens (link_parts l next)) c.as_slice-link-items.ensures)
 
 pub returns-in-Some : goal.returns-in-Some
-returns-in-Some c =
+returns-in-Some g c =
+    let rule = c.args.hooks.now in
     let ss = c.args.sites.now in
-    let lens = piece_lens ss in
+    let lens = code_lens rule ss in
     let ks = c.as_slice-link-items.result.now in
     let i = c.loop-link.link-index in
     let next = c.args.chain.now.next in
     let move : ℕ → ℕ = moved c.args.table.now.pairs in
-    let bytes = part_bytes c.args.anchors move (code_of c.args.runs.now) ss in
+    let bytes = part_bytes c.args.anchors move (code_of c.args.runs.now) (counters rule c.args.anchors ss) ss in
     let old = c.args.code.now.items in
     let now = c.loop-link.code.items in
     let new = c.put_join.new.code.items in
@@ -58,13 +95,14 @@ returns-in-Some c =
     c.put_join.ensures
 
 pub returns-in-None : goal.returns-in-None
-returns-in-None c =
+returns-in-None g c =
+    let rule = c.args.hooks.now in
     let ss = c.args.sites.now in
-    let lens = piece_lens ss in
+    let lens = code_lens rule ss in
     let ks = c.as_slice-link-items.result.now in
     let next = c.args.chain.now.next in
     let move : ℕ → ℕ = moved c.args.table.now.pairs in
-    let bytes = part_bytes c.args.anchors move (code_of c.args.runs.now) ss in
+    let bytes = part_bytes c.args.anchors move (code_of c.args.runs.now) (counters rule c.args.anchors ss) ss in
     let old = c.args.code.now.items in
     put_nothing lens bytes c.args.anchors.stub ks c.loop-link.link-index next c.loop-link.code.items c.loop-link-test.false c.in-None.is
     ∙ (c.loop-link.invariant.whole ∙ ap (λ (l : List ℕ). old ++ bytes_of bytes (placed lens (c.args.anchors.stub + length old) (link_parts l next))) c.as_slice-link-items.ensures)

@@ -2,30 +2,30 @@ use Rattle.std.proofs.Common.{ℕ, refl, ◌∙◌, arith}
 use Rattle.elf32_read.specs.Runs.{code_of}
 use Rattle.image_layout.specs.Layout.{moved}
 use Rattle.image_layout.specs.Parts.{chain_parts}
-use Rattle.image_layout.specs.Pieces.{piece_lens, part_bytes, chain_code}
-use Rattle.image_layout.specs.laws.Sizes.{part_sized}
+use Rattle.image_layout.specs.Pieces.{counters, code_lens, part_bytes, chain_code}
 use Rattle.image_layout.proofs.Steps.{chains_step, chains_gone, below_here}
-use Rattle.image_layout.proofs.Putting.{put_chain, length-put, put_all}
+use Rattle.image_layout.proofs.Putting.{put_chain, length-put, put_all, sized_parts}
 use Rattle.image_layout.proofs.code.put_chains.Goals as goal
 
 pub put_chain-requires-clause-below : goal.put_chain-requires-clause-below
-put_chain-requires-clause-below c =
+put_chain-requires-clause-below g c =
     (below_here _ c.args.chains.now c.loop-chain.chain-index c.chain-item.result c.loop-chain-test.true c.chain-item.is c.loop-chain.invariant.below).0
 
 pub put_chain-requires-clause-room : goal.put_chain-requires-clause-room
-put_chain-requires-clause-room c =
-    omega (arith, chains_step (piece_lens c.args.sites.now) c.args.chains.now c.loop-chain.chain-index c.chain-item.result c.loop-chain-test.true c.chain-item.is)
+put_chain-requires-clause-room g c =
+    omega (arith, chains_step (code_lens c.args.hooks.now c.args.sites.now) c.args.chains.now c.loop-chain.chain-index c.chain-item.result c.loop-chain-test.true c.chain-item.is)
 
 pub loop-chain-preserved : goal.loop-chain-preserved
-loop-chain-preserved c =
+loop-chain-preserved g c =
+    let rule = c.args.hooks.now in
     let ss = c.args.sites.now in
-    let lens = piece_lens ss in
+    let lens = code_lens rule ss in
     let cs = c.args.chains.now in
     let i = c.loop-chain.chain-index in
     let move : ℕ → ℕ = moved c.args.table.now.pairs in
     let code = code_of c.args.runs.now in
-    let bytes = part_bytes c.args.anchors move code ss in
-    let sized = part_sized c.args.anchors move code ss c.requires.whole in
+    let bytes = part_bytes c.args.anchors move code (counters rule c.args.anchors ss) ss in
+    let sized = sized_parts rule c.args.anchors move code ss c.requires.whole c.requires.ascend in
     let now = c.loop-chain.code.items in
     let new = c.put_chain.new.code.items in
     record {
@@ -36,7 +36,7 @@ loop-chain-preserved c =
 
 pub returns : goal.returns
 unfolding chain_code
-returns c =
+returns g c =
     let ss = c.args.sites.now in
-    let bytes = part_bytes c.args.anchors (moved c.args.table.now.pairs) (code_of c.args.runs.now) ss in
-    put_all (piece_lens ss) bytes c.args.anchors.stub c.loop-chain.code.items c.loop-chain.code.items _ (chains_gone c.args.chains.now c.loop-chain.chain-index c.loop-chain-test.false) refl ∙ c.loop-chain.invariant.whole
+    let bytes = part_bytes c.args.anchors (moved c.args.table.now.pairs) (code_of c.args.runs.now) (counters c.args.hooks.now c.args.anchors ss) ss in
+    put_all (code_lens c.args.hooks.now ss) bytes c.args.anchors.stub c.loop-chain.code.items c.loop-chain.code.items _ (chains_gone c.args.chains.now c.loop-chain.chain-index c.loop-chain-test.false) refl ∙ c.loop-chain.invariant.whole

@@ -2,14 +2,14 @@ use Rattle.std.proofs.Common.{◌≡◌, ◌+◌, ◌++◌, length, drop}
 use Rattle.elf32_read.specs.Runs.{code_of}
 use Rattle.image_layout.specs.Layout.{moved}
 use Rattle.image_layout.specs.Parts.{parts, parts_len, placed}
-use Rattle.image_layout.specs.Pieces.{piece_lens, part_bytes, bytes_of}
+use Rattle.image_layout.specs.Pieces.{counters, code_lens, part_bytes, bytes_of}
 use Rattle.image_layout.specs.Sites.{AreBelow}
 use Rattle.image_layout.proofs.code.put_chains.Given as goal
 
 abbrev pub invariant-loop-chain : goal.invariant-loop-chain
-invariant-loop-chain l = record {
-  whole : l.code.items ++ bytes_of (part_bytes l.anchors (moved l.table.pairs) (code_of l.runs) l.sites) (placed (piece_lens l.sites) (l.anchors.stub + length l.code.items) (parts (drop l.chain-index l.chains)))
-      ≡ l.fn.code.items ++ bytes_of (part_bytes l.anchors (moved l.table.pairs) (code_of l.runs) l.sites) (placed (piece_lens l.sites) (l.anchors.stub + length l.fn.code.items) (parts l.chains));
-  room : length l.code.items + parts_len (piece_lens l.sites) (parts (drop l.chain-index l.chains)) ≡ length l.fn.code.items + parts_len (piece_lens l.sites) (parts l.chains);
+invariant-loop-chain g l = record {
+  whole : l.code.items ++ bytes_of (part_bytes l.anchors (moved l.table.pairs) (code_of l.runs) (counters l.hooks l.anchors l.sites) l.sites) (placed (code_lens l.hooks l.sites) (l.anchors.stub + length l.code.items) (parts (drop l.chain-index l.chains)))
+      ≡ l.fn.code.items ++ bytes_of (part_bytes l.anchors (moved l.table.pairs) (code_of l.runs) (counters l.hooks l.anchors l.sites) l.sites) (placed (code_lens l.hooks l.sites) (l.anchors.stub + length l.fn.code.items) (parts l.chains));
+  room : length l.code.items + parts_len (code_lens l.hooks l.sites) (parts (drop l.chain-index l.chains)) ≡ length l.fn.code.items + parts_len (code_lens l.hooks l.sites) (parts l.chains);
   below : AreBelow (length l.sites) (drop l.chain-index l.chains);
 }
