@@ -1,6 +1,7 @@
 -- The executable bytes from an address on, byte by byte.
-use Rattle.std.proofs.Common.{◌≡◌, ℕ, zero, suc, ◌+◌, ◌-◌, ◌/◌, ◌%◌, ◌<◌, ◌≤◌, List, [], ◌∷◌, ◌++◌, length, take, drop, set, get_or, Option, Some, None, refl, sym, ap, ap₂, ◌∙◌, arith, add-one, append_assoc}
-use Rattle.std.proofs.Math.Seq.{take-suc-set}
+use Rattle.std.proofs.Common.{◌≡◌, ◌↔◌, ℕ, zero, suc, ◌+◌, ◌-◌, ◌/◌, ◌%◌, ◌<◌, ◌≤◌, List, [], ◌∷◌, ◌++◌, length, take, drop, set, get_or, slice_index, Option, Some, None, refl, sym, ap, ap₂, ◌∙◌, arith, add-one, append_assoc}
+use Rattle.std.proofs.Math.Seq.{take-suc-set, drop-cons}
+use Rattle.std.proofs.Math.ListN.{drop_of_length-le}
 use Rattle.std.proofs.lemmas.List.{append-nil, drop-drop, drop-set-lt, take-append-drop, length-take-le}
 use Rattle.mv_base.specs.Memory.{with_rest, exec_byte, exec_byte_of, exec_bytes}
 use Rattle.proc_image.specs.declared.memory.Memory.{Memory as Pages}
@@ -62,8 +63,64 @@ exec-same p q a b (suc n) same =
     ap p x ∙ same (suc k) (omega arith) ∙ ap q (sym y)))
 
 -- those of one page
-pub exec-page : (m : Pages) (at : ℕ) → at < 0xFFFFF000 → at % 4096 + 15 ≤ 4096 → exec_bytes (exec_byte_in (page_of m (at / 4096))) (at % 4096) 15 ≡ exec_bytes (exec_byte (cells m)) at 15
-exec-page m at low room = exec-same (exec_byte_in (page_of m (at / 4096))) (exec_byte (cells m)) (at % 4096) at 15 (λ k below.
+pub exec-page : (m : Pages) (at n : ℕ) → at < 0xFFFFF000 → at % 4096 + n ≤ 4096 → exec_bytes (exec_byte_in (page_of m (at / 4096))) (at % 4096) n ≡ exec_bytes (exec_byte (cells m)) at n
+exec-page m at n low room = exec-same (exec_byte_in (page_of m (at / 4096))) (exec_byte (cells m)) (at % 4096) at n (λ k below.
     let page : (at + k) / 4096 ≡ at / 4096 = omega arith in
     let place : (at + k) % 4096 ≡ at % 4096 + k = omega arith in
     ap exec_byte_of (sym (cells-page m (at + k) (omega arith) ∙ ap₂ (λ p i. get_or (page_of m p) i None) page place)))
+
+-- ---- bytes that stand there
+
+-- all of them stand there, exactly where those from a number on stand that much further up
+abbrev pub StandAlike : (ℕ → Option ℕ) → List ℕ → ℕ → ℕ → Type 0
+StandAlike code bytes at k = (exec_bytes code at (length bytes) ≡ bytes) ↔ (exec_bytes code (at + k) (length bytes - k) ≡ drop k bytes)
+
+pub alike-start : (code : ℕ → Option ℕ) (bytes : List ℕ) (at : ℕ) → StandAlike code bytes at 0
+alike-start code bytes at =
+    let same : exec_bytes code (at + 0) (length bytes - 0) ≡ exec_bytes code at (length bytes) =
+    (let a : at + 0 ≡ at = omega arith in let n : length bytes - 0 ≡ length bytes = omega arith in ap₂ (exec_bytes code) a n) in
+    (λ all. same ∙ all, λ rest. sym same ∙ rest)
+
+abbrev rest_of : List ℕ → List ℕ
+rest_of [] = []
+rest_of (b ∷ bytes) = bytes
+
+-- one of them and those behind it
+left-there : (code : ℕ → Option ℕ) (at n k : ℕ) → k < n → exec_bytes code (at + k) (n - k) ≡ with_rest (code (at + k)) (exec_bytes code (at + (k + 1)) (n - (k + 1)))
+unfolding exec_bytes
+left-there code at n k below =
+    let left : n - k ≡ suc (n - (k + 1)) = omega arith in
+    let on : at + k + 1 ≡ at + (k + 1) = omega arith in
+    ap (exec_bytes code (at + k)) left ∙ ap (λ a. with_rest (code (at + k)) (exec_bytes code a (n - (k + 1)))) on
+
+left-of : (bytes : List ℕ) (k b : ℕ) → k < length bytes → b ≡ slice_index bytes k → drop k bytes ≡ b ∷ drop (k + 1) bytes
+left-of bytes k b below is = rw add-one (drop-cons bytes k 0 below) ∙ ap (λ c. c ∷ drop (k + 1) bytes) (sym is)
+
+module _ (code : ℕ → Option ℕ) (bytes : List ℕ) (at k b : ℕ) (below : k < length bytes) (is : b ≡ slice_index bytes k) (alike : StandAlike code bytes at k) where
+  -- the next byte is there
+  pub alike-next : Some b ≡ code (at + k) → StandAlike code bytes at (k + 1)
+  alike-next there =
+      let left : exec_bytes code (at + k) (length bytes - k) ≡ b ∷ exec_bytes code (at + (k + 1)) (length bytes - (k + 1)) =
+      left-there code at (length bytes) k below ∙ ap (λ o. with_rest o (exec_bytes code (at + (k + 1)) (length bytes - (k + 1)))) (sym there) in
+      let right : drop k bytes ≡ b ∷ drop (k + 1) bytes = left-of bytes k b below is in
+      (λ all. ap rest_of (sym left ∙ alike.0 all ∙ right), λ rest. alike.1 (left ∙ ap (λ bs. b ∷ bs) rest ∙ sym right))
+
+  -- no byte is there, or another
+  pub alike-none : None ≡ code (at + k) → exec_bytes code at (length bytes) ≡ bytes → ⊥
+  alike-none none all =
+      let left : exec_bytes code (at + k) (length bytes - k) ≡ [] =
+      left-there code at (length bytes) k below ∙ ap (λ o. with_rest o (exec_bytes code (at + (k + 1)) (length bytes - (k + 1)))) (sym none) in
+      let len = ap length (sym left ∙ alike.0 all ∙ left-of bytes k b below is) in
+      omega (arith, len)
+
+  pub alike-other : (c : ℕ) → Some c ≡ code (at + k) → (c ≡ b → ⊥) → exec_bytes code at (length bytes) ≡ bytes → ⊥
+  alike-other c there other all =
+      let left : exec_bytes code (at + k) (length bytes - k) ≡ c ∷ exec_bytes code (at + (k + 1)) (length bytes - (k + 1)) =
+      left-there code at (length bytes) k below ∙ ap (λ o. with_rest o (exec_bytes code (at + (k + 1)) (length bytes - (k + 1)))) (sym there) in
+      other (ap (λ bs. slice_index bs 0) (sym left ∙ alike.0 all ∙ left-of bytes k b below is))
+
+-- no byte is left
+pub alike-end : (code : ℕ → Option ℕ) (bytes : List ℕ) (at k : ℕ) → length bytes ≤ k → StandAlike code bytes at k → exec_bytes code at (length bytes) ≡ bytes
+alike-end code bytes at k past alike =
+    let none : length bytes - k ≡ 0 = omega arith in
+    alike.1 (exec-end code (at + k) (length bytes - k) none ∙ sym (drop_of_length-le bytes past))

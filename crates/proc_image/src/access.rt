@@ -1,6 +1,6 @@
 //! What instructions ask of memory. Addresses go up modulo 2^32.
 
-ghost use Rattle.std.specs.Prelude.{◌≡◌, ◌++◌, ◌∷◌, ℕ, [], length, drop};
+ghost use Rattle.std.specs.Prelude.{◌≡◌, ◌≤◌, ◌↔◌, ◌++◌, ◌∷◌, ℕ, [], IsTrue, length, drop};
 ghost use Rattle.byteorder.specs.Endian.{little_bytes};
 ghost use Rattle.mv_base.specs.Memory.{put, read_fault as first_unmapped, write_fault as first_unwritable, exec_byte, exec_bytes as executable_bytes, is_writable};
 ghost use Rattle.proc_image.specs.Access.{IsByte, IsRead, IsWritten};
@@ -180,6 +180,44 @@ impl Memory {
             next += 1;
         }
         15
+    }
+
+    /// Whether these bytes, at most 15, stand in executable cells from `at` on.
+    pub fn is_code(&self, at: u32, bytes: &[u8]) -> bool
+        requires { length bytes.now ≤ 15 }
+        ensures { IsTrue result ↔ (executable_bytes (exec_byte (cells self.now)) at
+            (length bytes.now) ≡ bytes.now) }
+    {
+        let place = at % PAGE_SIZE;
+        if at < LIMIT
+            && place + 15 <= PAGE_SIZE
+            && let Some(page) = self.page(at / PAGE_SIZE)
+        {
+            return page.is_code(place as usize, bytes);
+        }
+        self.is_code_apart(at, bytes)
+    }
+
+    /// The same, byte by byte, where they may stand in two pages.
+    #[cold]
+    fn is_code_apart(&self, at: u32, bytes: &[u8]) -> bool
+        requires { length bytes.now ≤ 15 }
+        ensures { IsTrue result ↔ (executable_bytes (exec_byte (cells self.now)) at
+            (length bytes.now) ≡ bytes.now) }
+    {
+        let mut next = u64::from(at);
+        for byte in bytes {
+            match self.exec_byte(next) {
+                Some(code) => {
+                    if code != *byte {
+                        return false;
+                    }
+                }
+                None => return false,
+            }
+            next += 1;
+        }
+        true
     }
 
     /// The byte to be executed at an address; `None` where no cell there can be.

@@ -95,6 +95,27 @@ impl Page {
         15
     }
 
+    /// Whether these bytes stand to be executed from a place on.
+    pub fn is_code(&self, place: usize, bytes: &[u8]) -> bool
+        requires { place + length bytes.now ≤ 4096 }
+        ensures { IsTrue result ↔ (exec_bytes (exec_byte_in self.now) place
+            (length bytes.now) ≡ bytes.now) }
+    {
+        let mut next = place;
+        for byte in bytes {
+            match self.exec_byte(next) {
+                Some(code) => {
+                    if code != *byte {
+                        return false;
+                    }
+                }
+                None => return false,
+            }
+            next += 1;
+        }
+        true
+    }
+
     /// Maps a cell at a place that the page has, or with `None` takes it away.
     pub fn set(&mut self, place: usize, cell: Option<Cell>)
         requires { place < length self.old }

@@ -8,7 +8,7 @@ use Rattle.proc_image.proofs.memory.Memory.exec_bytes.Goals as goal
 same : (c : goal.After-exec_bytes) → exec_bytes (exec_byte_in c.in-Some.page.now) (c.args.at % 4096) 15 ≡ exec_bytes (exec_byte (cells c.args.self.now)) c.args.at 15
 same c =
     ap (λ (p : Page). exec_bytes (exec_byte_in p) (c.args.at % 4096) 15) c.in-Some.ensures
-    ∙ exec-page c.args.self.now c.args.at c.if-at-lt-LIMIT.true c.if-place-le-PAGE_SIZE.true
+    ∙ exec-page c.args.self.now c.args.at 15 c.if-at-lt-LIMIT.true c.if-place-le-PAGE_SIZE.true
 
 pub returns-clause-copied : goal.returns-clause-copied
 returns-clause-copied c = c.exec_bytes.ensures.copied ∙ ap (λ (bs : List ℕ). bs ++ drop (length bs) c.args.to.now) (same c)
