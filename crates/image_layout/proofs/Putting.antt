@@ -4,16 +4,20 @@ use Rattle.std.specs.Prelude.{IfSome, slice_get, slice_index}
 use Rattle.std.proofs.lemmas.List.{length-append, append_assoc, append-nil}
 use Rattle.std.proofs.lemmas.List.Concat.{flat_map-append}
 use Rattle.std.proofs.lemmas.Option.{slice_get-get_or}
+use Rattle.x86_insn.specs.declared.insn.Flow.{Flow}
+use Rattle.x86_insn.specs.declared.insn.Flow.TheVariants as flow
+use Rattle.branch_lengthen.specs.Near.{near_bytes}
+use Rattle.call_rewrite.specs.Far.{far_bytes, load_of}
 use Rattle.map_table.specs.Pairs.{Ascend}
 use Rattle.counter_hooks.specs.declared.rules.Rule.{Rule}
 use Rattle.counter_hooks.specs.Rules.{picked}
 use Rattle.superset.specs.declared.site.Site.{Site}
 use Rattle.sequence_join.specs.declared.chain.Chain.{Chain}
 use Rattle.simulation_laws.specs.declared.anchors.Anchors.{Anchors}
-use Rattle.simulation_laws.specs.Pieces.{counter_code, counted_piece}
+use Rattle.simulation_laws.specs.Pieces.{successor, target, piece_of, counter_code, counted_piece}
 use Rattle.image_layout.specs.Parts.{Part, Piece, Join, join_parts, link_parts, chain_parts, parts, part_len, parts_len, placed}
 use Rattle.image_layout.specs.Measuring.{AreRanks}
-use Rattle.image_layout.specs.Pieces.{counters, code_lens, site_code, part_bytes, bytes_of}
+use Rattle.image_layout.specs.Pieces.{is_direct, counters, code_lens, site_code, part_bytes, bytes_of}
 use Rattle.image_layout.specs.Sites.{AreWhole}
 use Rattle.image_layout.specs.laws.Placing.{placed-append, length-code_at}
 use Rattle.image_layout.specs.laws.SiteFacts.{site_address}
@@ -82,7 +86,20 @@ module _ (lens : List ℕ) (bytes : ℕ → Part → List ℕ) (stub : ℕ) wher
   pub put_nothing : (ks : List ℕ) (i : ℕ) (next : Option ℕ) (now : List ℕ) → length ks ≤ i → next ≡ None → now ≡ now ++ bytes_of bytes (placed lens (stub + length now) (link_parts (drop i ks) next))
   put_nothing ks i next now le e = put_all now now (link_parts (drop i ks) next) (links_none ks i next le ∙ ap join_parts e) refl
 
--- ---- the code of a site of an index
+-- ---- the code of a site
+
+-- a piece for the place of its target, where it has one, whatever is said of that of any other
+pub piece_by : (f : Flow) (an : Anchors) (move : ℕ → ℕ) (code : ℕ → Option ℕ) (here : ℕ) (s : Site) (to : ℕ) → to ≡ cond (is_direct f) (move (target s)) 0 → piece_of f an (λ _. to) code here s ≡ piece_of f an move code here s
+piece_by flow.Plain an move code here s to e = refl
+piece_by flow.System an move code here s to e = refl
+piece_by flow.Trap an move code here s to e = refl
+piece_by flow.Jump an move code here s to e = ap (λ n. near_bytes s.insn here n) e
+piece_by flow.Branch an move code here s to e = ap (λ n. near_bytes s.insn here n) e
+piece_by flow.Count an move code here s to e = ap (λ n. near_bytes s.insn here n) e
+piece_by flow.Call an move code here s to e = ap (λ n. far_bytes (load_of s.insn) s.insn (successor s) here n an.private) e
+piece_by flow.JumpVia an move code here s to e = refl
+piece_by flow.CallVia an move code here s to e = refl
+piece_by flow.Return an move code here s to e = refl
 
 pub there_is : (P : Site → Type 0) (ss : List Site) (k : ℕ) (d : Site) → k < length ss → IfSome (slice_get ss k) P → P (get_or ss k d)
 there_is P ss k d lt h = subst (λ (o : Option Site). IfSome o P) (slice_get-get_or ss k d lt) h

@@ -1,6 +1,6 @@
 -- The bytes of the parts that stand behind the stub, and how many the code of a site has: its counter, where a rule picks
 -- it, and its piece. This project's own.
-use Rattle.std.specs.Prelude.{ℕ, ◌+◌, ◌*◌, Bool, List, [], length, map, take, Option, Some, None, slice_get, if◌then◌else◌}
+use Rattle.std.specs.Prelude.{ℕ, ◌+◌, ◌*◌, Bool, true, false, List, [], length, map, take, Option, Some, None, slice_get, if◌then◌else◌}
 use Rattle.std.specs.List.{filter, flat_map}
 use Rattle.x86_insn.specs.declared.insn.Flow.{Flow}
 use Rattle.x86_insn.specs.declared.insn.Flow.TheVariants.{Plain, Jump, Branch, Count, Call, JumpVia, CallVia, Return, Trap, System}
@@ -31,6 +31,19 @@ len_by Count s = near_size Count s.len
 
 abbrev pub piece_len : Site → ℕ
 piece_len s = len_by (flow_of s.insn) s
+
+-- a flow whose piece goes to where the instruction's own target now is
+abbrev pub is_direct : Flow → Bool
+is_direct Jump = true
+is_direct Branch = true
+is_direct Count = true
+is_direct Call = true
+is_direct Plain = false
+is_direct System = false
+is_direct Trap = false
+is_direct JumpVia = false
+is_direct CallVia = false
+is_direct Return = false
 
 -- ---- counters
 

@@ -5,13 +5,15 @@ ghost use Rattle.std.specs.List.{All};
 ghost use Rattle.mv_base.specs.Memory.{exec_bytes};
 ghost use Rattle.elf32_read.specs.Runs.{code_of, AreApart};
 ghost use Rattle.map_table.specs.Pairs.{Ascend};
+ghost use Rattle.x86_insn.specs.Flow.{flow_of};
 ghost use Rattle.step_laws.specs.Jumps.{jump_bytes};
 ghost use Rattle.counter_hooks.specs.Rules.{picked};
+ghost use Rattle.superset.specs.Targets.{target as target_of};
 ghost use Rattle.simulation_laws.specs.Pieces.{piece as piece_of, counter_code, counted_piece};
 ghost use Rattle.image_layout.specs.Layout.{moved as moved_of};
 ghost use Rattle.image_layout.specs.Measuring.{AreRanks};
 ghost use Rattle.image_layout.specs.Parts.{chain_parts, parts, parts_len, placed};
-ghost use Rattle.image_layout.specs.Pieces.{piece_len, counters, code_lens, part_bytes, bytes_of, chain_code};
+ghost use Rattle.image_layout.specs.Pieces.{is_direct, piece_len, counters, code_lens, part_bytes, bytes_of, chain_code};
 ghost use Rattle.image_layout.specs.Sites.{AreShort, AreWhole, AreBelow, IsShort, IsWhole};
 
 use crate::layout::moved;
@@ -24,6 +26,7 @@ use sequence_join::Chain;
 use simulation_laws::{Anchors, piece_bytes};
 use std::alloc::Global;
 use superset::{Piece, Site, target};
+use x86_insn::Flow;
 
 /// How many bytes of the private area stand before the counters, and how many a counter has.
 const FIRST_COUNTER: u32 = 64;
@@ -170,7 +173,19 @@ fn piece(runs: &[Run], table: &Table<'_>, site: &Site, anchors: Anchors, here: u
     ensures size { length result ≡ piece_len site.now }
 {
     let own = bytes_from(runs, site.at, usize::from(site.len));
-    piece_bytes(own, site, anchors, here, moved(table, target(site)))
+    piece_bytes(own, site, anchors, here, target_place(table, site))
+}
+
+/// Where the target of a direct transfer now is; 0 for any other instruction, for which no address is looked up.
+fn target_place(table: &Table<'_>, site: &Site) -> u32
+    ensures { result ≡ (if is_direct (flow_of site.now.insn)
+        then moved_of table.now.pairs (target_of site.now) else 0) }
+{
+    match site.insn.next_kind() {
+        Flow::Jump | Flow::Branch | Flow::Count | Flow::Call => moved(table, target(site)),
+        Flow::Plain | Flow::System | Flow::Trap => 0,
+        Flow::JumpVia | Flow::CallVia | Flow::Return => 0,
+    }
 }
 
 /// At most `len` bytes that the runs have from an address on.
