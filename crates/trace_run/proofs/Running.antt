@@ -3,6 +3,7 @@ use Rattle.std.proofs.Common.{◌≡◌, ℕ, ◌+◌, ◌<◌, Option, Some, No
 use Rattle.std.specs.Option.{option_and_then}
 use Rattle.std.proofs.lemmas.Bool.{cases_lt}
 use Rattle.std.proofs.lemmas.Option.{same_Some}
+use Rattle.elf32_write.specs.Frame.{Frame}
 use Rattle.x86_insn.specs.declared.stop.Stop.{Stop}
 use Rattle.x86_insn.specs.declared.stop.Stop.TheVariants as stop
 use Rattle.x86_insn.specs.State.{State, Stopped}
@@ -49,8 +50,8 @@ goes s t outcome.Gone e h = cc
 goes s t (outcome.TooLarge n) e h = cc
 goes s t outcome.NoMemory e h = cc
 
-module _ (first : State) (steps n : ℕ) (s t : State) (reached : Reaches first n s) (fewer : n < steps) where
-  stop_shown : (r : Report) (why : Stop) (e : End) → Comes (taken_up s) (step s) s (Stopped why t) → (let plain : Result (Option End) TraceFault = Ok (Some (end_of why)) in plain ≡ Ok (Some e)) → Shows r t e n → Stops first steps r
+module _ (f : Option Frame) (first : State) (steps n : ℕ) (s t : State) (reached : Reaches first n s) (fewer : n < steps) where
+  stop_shown : (r : Report) (why : Stop) (e : End) → Comes (taken_up s) (step s) s (Stopped why t) → (let plain : Result (Option End) TraceFault = Ok (Some (end_of why)) in plain ≡ Ok (Some e)) → Shows f r t e n → Stops f first steps r
   stop_shown r why e h same shown = record {
     done = n;
     fewer = fewer;
@@ -60,11 +61,11 @@ module _ (first : State) (steps n : ℕ) (s t : State) (reached : Reaches first 
     why = why;
     after = t;
     stopped = h.is;
-    shown = let back : e ≡ end_of why = cc in subst (λ w. Shows r t w n) back shown;
+    shown = let back : e ≡ end_of why = cc in subst (λ w. Shows f r t w n) back shown;
   }
 
   -- a step with an end stops the run
-  pub ends : (r : Report) (o : Outcome) (e : End) → ended_by o ≡ Ok (Some e) → IsStep s o t → Shows r t e n → Stops first steps r
+  pub ends : (r : Report) (o : Outcome) (e : End) → ended_by o ≡ Ok (Some e) → IsStep s o t → Shows f r t e n → Stops f first steps r
   ends r outcome.Next e same h shown = cc
   ends r (outcome.Trap kind at) e same h shown = stop_shown r (stop.Trap kind at) e h same shown
   ends r outcome.Outside e same h shown = stop_shown r stop.Outside e h same shown
@@ -75,17 +76,17 @@ module _ (first : State) (steps n : ℕ) (s t : State) (reached : Reaches first 
   ends r outcome.NoMemory e same h shown = cc
 
   -- a step that is refused refuses the run
-  pub refuses : (o : Outcome) (f : TraceFault) → ended_by o ≡ Err f → IsStep s o t → IsRun first steps (Err f)
-  refuses outcome.Next f same h = cc
-  refuses (outcome.Trap kind at) f same h = cc
-  refuses outcome.Outside f same h = cc
-  refuses outcome.NoAnswer f same h = cc
-  refuses outcome.BadAnswer f same h = cc
-  refuses outcome.Gone f same h = cc
-  refuses (outcome.TooLarge size) f same h =
-      let back : TooLarge size ≡ f = cc in
-      subst (λ g. IsRun first steps (Err g)) back
+  pub refuses : (o : Outcome) (e : TraceFault) → ended_by o ≡ Err e → IsStep s o t → IsRun f first steps (Err e)
+  refuses outcome.Next e same h = cc
+  refuses (outcome.Trap kind at) e same h = cc
+  refuses outcome.Outside e same h = cc
+  refuses outcome.NoAnswer e same h = cc
+  refuses outcome.BadAnswer e same h = cc
+  refuses outcome.Gone e same h = cc
+  refuses (outcome.TooLarge size) e same h =
+      let back : TooLarge size ≡ e = cc in
+      subst (λ g. IsRun f first steps (Err g)) back
       (record { done = n; fewer = fewer; before = s; reached = reached; left = h.memory; beyond = h.beyond })
-  refuses outcome.NoMemory f same h =
-      let back : NoMemory ≡ f = cc in
-      subst (λ g. IsRun first steps (Err g)) back tt
+  refuses outcome.NoMemory e same h =
+      let back : NoMemory ≡ e = cc in
+      subst (λ g. IsRun f first steps (Err g)) back tt

@@ -1,4 +1,5 @@
 -- the definitions that the contracts cite: what a trace gives, and its text
+pub mod Counts
 pub mod Reports
 pub mod Texts
 -- an outcome of the machine as an end, for the proofs of this crate

@@ -1,7 +1,8 @@
 -- The report of a traced file. This project's own.
-use Rattle.std.specs.Prelude.{◌≡◌, ℕ, ◌<◌, ◌≤◌, false, List, [], ◌∷◌, Some, Result, Ok, Err}
+use Rattle.std.specs.Prelude.{◌≡◌, ℕ, ◌<◌, ◌≤◌, false, List, [], ◌∷◌, Option, Some, Result, Ok, Err}
 use Rattle.mv_base.specs.Memory.{Memory}
 use Rattle.elf32_read.specs.Load.{load}
+use Rattle.elf32_write.specs.Frame.{Frame, frame}
 use Rattle.syscall_log.specs.declared.log.Log.{Log}
 use Rattle.x86_insn.specs.declared.stop.Stop.{Stop}
 use Rattle.x86_insn.specs.declared.stop.Stop.TheVariants as stop
@@ -19,6 +20,7 @@ use Rattle.trace_run.specs.declared.report.End.TheVariants as end
 use Rattle.trace_run.specs.declared.report.Report.{Report}
 use Rattle.trace_run.specs.declared.tracing.TraceFault.{TraceFault}
 use Rattle.trace_run.specs.declared.tracing.TraceFault.TheVariants.{TooLarge, NoMemory}
+use Rattle.trace_run.specs.Counts.{counts_of}
 
 -- ---- runs
 
@@ -41,17 +43,20 @@ end_of stop.NoAnswer = end.NoAnswer
 end_of stop.BadAnswer = end.BadAnswer
 end_of stop.Gone = end.Gone
 
--- a state's calls, registers and flags; by what the run ended there, and how many steps it completed
-pub record Shows (r : Report) (s : State) (why : End) (steps : ℕ) : Type 0 where
+-- a state's calls, the counters of a frame, registers and flags; by what the run ended there, and how many steps it
+-- completed
+pub record Shows (f : Option Frame) (r : Report) (s : State) (why : End) (steps : ℕ) : Type 0 where
   pub calls : r.calls.made ≡ s.calls
+  pub counts : r.counts ≡ counts_of f s.memory
   pub regs : r.regs ≡ s.core.regs
   pub flags : r.flags ≡ flag_image s.core.flags
   pub ended : r.end ≡ why
   pub steps_done : r.steps ≡ steps
 
--- no run: no call, registers and flags as if all were 0 and clear, and no step
+-- no run: no call and no counter, registers and flags as if all were 0 and clear, and no step
 pub record ShowsNoRun (r : Report) : Type 0 where
   pub calls : r.calls.made ≡ []
+  pub counts : r.counts ≡ []
   pub regs : r.regs ≡ 0 ∷ 0 ∷ 0 ∷ 0 ∷ 0 ∷ 0 ∷ 0 ∷ 0 ∷ []
   pub flags : r.flags ≡ flag_image no_flags
   pub ended : r.end ≡ end.NoStack
@@ -60,13 +65,13 @@ pub record ShowsNoRun (r : Report) : Type 0 where
 -- ---- how a run ends
 
 -- as many steps as asked complete, and no further one is tried
-pub record Completes (first : State) (steps : ℕ) (r : Report) : Type 0 where
+pub record Completes (f : Option Frame) (first : State) (steps : ℕ) (r : Report) : Type 0 where
   pub last : State
   pub reached : Reaches first steps last
-  pub shown : Shows r last end.Steps steps
+  pub shown : Shows f r last end.Steps steps
 
 -- fewer steps complete, and the next one stops
-pub record Stops (first : State) (steps : ℕ) (r : Report) : Type 0 where
+pub record Stops (f : Option Frame) (first : State) (steps : ℕ) (r : Report) : Type 0 where
   pub done : ℕ
   pub fewer : done < steps
   pub before : State
@@ -75,7 +80,7 @@ pub record Stops (first : State) (steps : ℕ) (r : Report) : Type 0 where
   pub why : Stop
   pub after : State
   pub stopped : step before ≡ Stopped why after
-  pub shown : Shows r after (end_of why) done
+  pub shown : Shows f r after (end_of why) done
 
 -- fewer steps complete, and the next one takes up a map that isn't refused and leaves mapped pages of n bytes, which
 -- are more than are allowed
@@ -87,16 +92,16 @@ pub record MapsBeyond (first : State) (steps n : ℕ) : Type 0 where
   pub left : Memory
   pub beyond : apply_bounded before.memory (taken_up before) ≡ Beyond n left
 
--- the run completes all steps, or stops before
-pub data Runs (first : State) (steps : ℕ) (r : Report) : Type 0 where
-  ToAll : Completes first steps r → Runs first steps r
-  ToStop : Stops first steps r → Runs first steps r
+-- the run of a file with this frame, or with none, completes all steps, or stops before
+pub data Runs (f : Option Frame) (first : State) (steps : ℕ) (r : Report) : Type 0 where
+  ToAll : Completes f first steps r → Runs f first steps r
+  ToStop : Stops f first steps r → Runs f first steps r
 
 -- what a run from a state comes to
-abbrev pub IsRun : State → ℕ → Result Report TraceFault → Type 0
-IsRun first steps (Ok r) = Runs first steps r
-IsRun first steps (Err (TooLarge n)) = MapsBeyond first steps n
-IsRun first steps (Err NoMemory) = Unit {0}
+abbrev pub IsRun : Option Frame → State → ℕ → Result Report TraceFault → Type 0
+IsRun f first steps (Ok r) = Runs f first steps r
+IsRun f first steps (Err (TooLarge n)) = MapsBeyond first steps n
+IsRun f first steps (Err NoMemory) = Unit {0}
 
 -- ---- what a trace gives
 
@@ -108,7 +113,7 @@ pub record Starts (b : List ℕ) : Type 0 where
 -- the report of a file, a log and a number of steps: the stack is taken and nothing runs, or it runs from the first state
 pub data IsReport (b : List ℕ) (log : Log) (steps : ℕ) (r : Report) : Type 0 where
   OfNoRun : IsTaken b → ShowsNoRun r → IsReport b log steps r
-  OfRun : Starts b → Runs (first_state b log) steps r → IsReport b log steps r
+  OfRun : Starts b → Runs (frame b) (first_state b log) steps r → IsReport b log steps r
 
 -- too many bytes would be mapped: n, by the file and the stack, or by a map of a step that is tried
 pub data IsBeyond (b : List ℕ) (log : Log) (steps n : ℕ) : Type 0 where
@@ -126,6 +131,7 @@ IsTrace b log steps (Err NoMemory) = Unit {0}
 -- two reports show the same
 pub record ShowSame (r q : Report) : Type 0 where
   pub calls : r.calls.made ≡ q.calls.made
+  pub counts : r.counts ≡ q.counts
   pub regs : r.regs ≡ q.regs
   pub flags : r.flags ≡ q.flags
   pub ended : r.end ≡ q.end

@@ -36,17 +36,22 @@ end_line BadAnswer = words_line (codes "end badanswer") []
 end_line Gone = words_line (codes "end gone") []
 end_line NoStack = words_line (codes "end nostack") []
 
+-- the address of a counted site, and how often it was executed
+abbrev pub count_line : ℕ × ℕ → List ℕ
+count_line c = line (codes "count " ++ (hex8 c.0 ++ (32 ∷ decimal c.1)))
+
 -- how many steps were completed
 abbrev pub steps_line : ℕ → List ℕ
 steps_line steps = line (codes "steps " ++ decimal steps)
 
--- a line a call, the oldest first; the registers by their number; the image of the flags; the end; the steps
-abbrev pub report_lines : List (List ℕ) → List ℕ → ℕ → End → ℕ → List ℕ
-report_lines calls regs flags end steps =
+-- a line a call, the oldest first; a line a counter; the registers by their number; the image of the flags; the end; the steps
+abbrev pub report_lines : List (List ℕ) → List (ℕ × ℕ) → List ℕ → ℕ → End → ℕ → List ℕ
+report_lines calls counts regs flags end steps =
     flat_map (words_line (codes "call")) calls
+    ++ (flat_map count_line counts
     ++ (words_line (codes "regs") regs
-    ++ (words_line (codes "flags") (flags ∷ []) ++ (end_line end ++ steps_line steps)))
+    ++ (words_line (codes "flags") (flags ∷ []) ++ (end_line end ++ steps_line steps))))
 
 -- the text of a report
 abbrev pub text_of : Report → List ℕ
-text_of r = report_lines r.calls.made r.regs r.flags r.end r.steps
+text_of r = report_lines r.calls.made r.counts r.regs r.flags r.end r.steps

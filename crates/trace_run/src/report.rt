@@ -1,5 +1,6 @@
 //! The report of a run.
 
+use std::marker::Model;
 use x86_machine::{CallList, Kind};
 
 /// By what a run ended.
@@ -21,11 +22,45 @@ pub enum End {
     NoStack,
 }
 
-/// A run: the system calls that it made, the oldest first; where it ended, the eight registers by their number and the
+/// How often sites were executed: each with its address.
+#[derive(Drop)]
+pub struct Counts {
+    items: Vec<(u32, u64)>,
+}
+
+impl Model for Counts {
+    ghost use Rattle.std.specs.Prelude.{ℕ, List};
+
+    ghost Value = { List (ℕ × ℕ) };
+
+    ghost view = { λ c. c.items.items };
+}
+
+impl Counts {
+    ghost use Rattle.std.specs.Prelude.{◌≡◌};
+
+    /// The counts of a vector.
+    pub fn new(items: Vec<(u32, u64)>) -> Counts
+        ensures { result ≡ items.items }
+    {
+        Counts { items }
+    }
+
+    /// The counts as a slice.
+    pub fn as_slice(&self) -> &[(u32, u64)]
+        ensures { result.now ≡ self.now }
+    {
+        self.items.as_slice()
+    }
+}
+
+/// A run: the system calls that it made, the oldest first; the counters of the file's frame that are mapped and not 0, in
+/// the order of its list; where it ended, the eight registers by their number and the
 /// flags as PUSHFD stores them; by what it ended, and how many steps it completed.
 #[derive(Drop)]
 pub struct Report {
     pub calls: CallList,
+    pub counts: Counts,
     pub regs: [u32; 8],
     pub flags: u32,
     pub end: End,

@@ -2,15 +2,16 @@
 
 ghost use Rattle.std.specs.Prelude.{◌≡◌, ◌++◌, IfOk, OnErr, OnOk, codes, map};
 ghost use Rattle.std.specs.List.{flat_map};
-ghost use Rattle.trace_run.specs.Texts.{end_line, steps_line, text_of, trap_line, words_line};
+ghost use Rattle.trace_run.specs.Texts.{count_line, end_line, steps_line, text_of, trap_line, words_line};
 
 use crate::report::{End, Report};
 use mv_base::{NoMemory, put_decimal, put_hex8};
 use std::alloc::Global;
 use x86_machine::{Call, Kind};
 
-/// Appends the text of a report: a line `call` with its seven words for each call made, then the lines `regs`, `flags`,
-/// `end` and `steps`. Words have eight hexadecimal digits.
+/// Appends the text of a report: a line `call` with its seven words for each call made, a line `count` with an address
+/// and a decimal for each counter, then the lines `regs`, `flags`, `end` and `steps`. Words and addresses have eight
+/// hexadecimal digits.
 ///
 /// # Errors
 ///
@@ -30,6 +31,7 @@ fn text_of(alloc: Global, report: &Report) -> Result<Vec<u8>, NoMemory>
 {
     let mut text = Vec::new(alloc);
     put_calls(report.calls.as_slice(), &mut text)?;
+    put_counts(report.counts.as_slice(), &mut text)?;
     put_words("regs", &report.regs, &mut text)?;
     put_words("flags", &[report.flags], &mut text)?;
     put_end(report.end, &mut text)?;
@@ -45,6 +47,29 @@ fn put_calls(calls: &[Call], to: &mut Vec<u8>) -> Result<(), NoMemory>
     for call in calls {
         put_words("call", &call.words, to)?;
     }
+    Ok(())
+}
+
+/// Appends a line for each counter.
+fn put_counts(counts: &[(u32, u64)], to: &mut Vec<u8>) -> Result<(), NoMemory>
+    ensures { OnOk result (to.new.items ≡ to.old.items ++ flat_map count_line counts.now) }
+{
+    for count in counts {
+        put_count(*count, to)?;
+    }
+    Ok(())
+}
+
+/// Appends the line of a counter.
+fn put_count(count: (u32, u64), to: &mut Vec<u8>) -> Result<(), NoMemory>
+    ensures { OnOk result (to.new.items ≡ to.old.items ++ count_line count) }
+{
+    let (address, number) = count;
+    to.extend_from_slice(b"count ")?;
+    put_hex8(address, to)?;
+    to.push(b' ')?;
+    put_decimal(number, to)?;
+    to.push(b'\n')?;
     Ok(())
 }
 

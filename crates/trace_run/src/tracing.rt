@@ -3,12 +3,14 @@
 ghost use Rattle.std.specs.Prelude.{◌≡◌, ◌≤◌, IfOk, List, length};
 ghost use Rattle.mv_base.specs.Effects.{Answer};
 ghost use Rattle.elf32_read.specs.Reading.{IsImage};
+ghost use Rattle.elf32_write.specs.Frame.{frame};
 ghost use Rattle.syscall_log.specs.Meaning.{answers_of};
 ghost use Rattle.x86_machine.specs.Stepping.{state_of};
 ghost use Rattle.trace_run.specs.Outcomes.{ended_by as end_by};
 ghost use Rattle.trace_run.specs.Reports.{IsRun, IsTrace, Shows, ShowsNoRun};
 
-use crate::report::{End, Report};
+use crate::counting::counts;
+use crate::report::{Counts, End, Report};
 use elf32_read::Image;
 use mv_base::NoMemory;
 use std::alloc::Global;
@@ -38,8 +40,8 @@ impl From<NoMemory> for TraceFault {
 const CLEAR_FLAGS: u32 = 0x202;
 
 /// Runs a file from its entry, with the arguments and the answers of a log, for as many steps as asked or until it stops,
-/// and reports that. `image` is what was read from `bytes`. At most `steps` steps are completed, and one more is tried
-/// only where fewer are.
+/// and reports that, with the counters of the file's frame, where it has one. `image` is what was read from `bytes`. At
+/// most `steps` steps are completed, and one more is tried only where fewer are.
 ///
 /// # Errors
 ///
@@ -56,26 +58,33 @@ pub fn trace(
     ensures { IsTrace bytes.now log.now steps result }
 {
     match Machine::start(alloc, image, bytes, log) {
-        Ok(machine) => run(machine, log, steps),
+        Ok(machine) => run(alloc, bytes, machine, log, steps),
         Err(StartFault::TooLarge(size)) => Err(TraceFault::TooLarge(size)),
         Err(StartFault::StackTaken) => Ok(no_run(alloc)?),
         Err(StartFault::NoMemory) => Err(TraceFault::NoMemory),
     }
 }
 
-/// Runs a machine that was started on this log.
-fn run(mut machine: Machine, log: &Log, steps: u64) -> Result<Report, TraceFault>
+/// Runs a machine that was started on this file and log.
+fn run(
+    alloc: Global,
+    file: &[u8],
+    mut machine: Machine,
+    log: &Log,
+    steps: u64,
+) -> Result<Report, TraceFault>
     requires { length log.now.answers ≤ machine.calls.spare }
-    ensures { IsRun (state_of machine (answers_of log.now.answers)) steps result }
+    ensures { IsRun (frame file.now) (state_of machine (answers_of log.now.answers)) steps
+        result }
 {
     let mut answers = Answers { log, next: 0 };
     for done in 0..steps {
         let outcome = machine.step(&mut answers);
         if let Some(end) = ended_by(outcome)? {
-            return Ok(report_of(machine, end, done));
+            return Ok(report_of(alloc, file, machine, end, done)?);
         }
     }
-    Ok(report_of(machine, End::Steps, steps))
+    Ok(report_of(alloc, file, machine, End::Steps, steps)?)
 }
 
 /// By what a run ends with this outcome of a step; `None` where it goes on.
@@ -94,23 +103,32 @@ fn ended_by(outcome: Outcome) -> Result<Option<End>, TraceFault>
     }
 }
 
-/// The report of a machine that has completed so many steps and ended so.
-fn report_of(machine: Machine, end: End, steps: u64) -> Report
-    ensures { (answers : List Answer) → Shows result (state_of machine answers) end steps }
+/// The report of a machine that ran this file, has completed so many steps and ended so.
+fn report_of(
+    alloc: Global,
+    file: &[u8],
+    machine: Machine,
+    end: End,
+    steps: u64,
+) -> Result<Report, NoMemory>
+    ensures { IfOk result (λ report. (answers : List Answer) →
+        Shows (frame file.now) report (state_of machine answers) end steps) }
 {
+    let counts = counts(alloc, file, &machine.memory)?;
     let Machine {
         regs,
         flags,
         calls,
         ..
     } = machine;
-    Report {
+    Ok(Report {
         calls,
+        counts,
         regs,
         flags: flags.image(),
         end,
         steps,
-    }
+    })
 }
 
 /// The report where nothing ran.
@@ -119,6 +137,7 @@ fn no_run(alloc: Global) -> Result<Report, NoMemory>
 {
     Ok(Report {
         calls: CallList::with_room(alloc, 0)?,
+        counts: Counts::new(Vec::new(alloc)),
         regs: [0; 8],
         flags: CLEAR_FLAGS,
         end: End::NoStack,

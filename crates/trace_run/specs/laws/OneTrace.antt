@@ -6,6 +6,7 @@ use Rattle.std.proofs.lemmas.Bool.{cases_lt, both_ways}
 use Rattle.std.proofs.lemmas.Option.{none-some, same_Some}
 use Rattle.mv_base.specs.Memory.{Memory}
 use Rattle.elf32_read.specs.Load.{load}
+use Rattle.elf32_write.specs.Frame.{Frame, frame}
 use Rattle.syscall_log.specs.declared.log.Log.{Log}
 use Rattle.x86_insn.specs.declared.stop.Stop.{Stop}
 use Rattle.x86_insn.specs.State.{State, Outcome, Next, Stopped}
@@ -21,6 +22,7 @@ use Rattle.trace_run.specs.declared.report.End.{End}
 use Rattle.trace_run.specs.declared.report.Report.{Report}
 use Rattle.trace_run.specs.declared.tracing.TraceFault.{TraceFault}
 use Rattle.trace_run.specs.declared.tracing.TraceFault.TheVariants.{TooLarge, NoMemory}
+use Rattle.trace_run.specs.Counts.{counts_of}
 use Rattle.trace_run.specs.Reports.{KeepsBound, Reaches, Shows, ShowsNoRun, Completes, Stops, MapsBeyond, Runs, ToAll, ToStop, Starts, IsReport, OfNoRun, OfRun, IsBeyond, AtStart, AtStep, IsTrace, ShowSame, AreSame, end_of}
 
 -- ---- runs
@@ -87,15 +89,15 @@ one_end first steps n m s t h k =
       ]
     ]
 
-all_ends : (first : State) (steps : ℕ) (r : Report) (h : Completes first steps r) → EndsAt first steps steps h.last
-all_ends first steps r h = record { most = omega arith; reached = h.reached; over = λ l u e k. absurd (omega arith) }
+all_ends : (f : Option Frame) (first : State) (steps : ℕ) (r : Report) (h : Completes f first steps r) → EndsAt first steps steps h.last
+all_ends f first steps r h = record { most = omega arith; reached = h.reached; over = λ l u e k. absurd (omega arith) }
 
 -- a step that stops doesn't complete
 stopped_next : (s t u : State) (why : Stop) → step s ≡ Stopped why t → step s ≡ Next u → ⊥
 stopped_next s t u why e h = let clash : Stopped why t ≡ Next u = sym e ∙ h in cc
 
-stop_ends : (first : State) (steps : ℕ) (r : Report) (h : Stops first steps r) → EndsAt first steps h.done h.before
-stop_ends first steps r h =
+stop_ends : (f : Option Frame) (first : State) (steps : ℕ) (r : Report) (h : Stops f first steps r) → EndsAt first steps h.done h.before
+stop_ends f first steps r h =
     let fewer = h.fewer in
     record {
       most = omega arith;
@@ -119,30 +121,31 @@ beyond_ends first steps n h =
 -- ---- two outcomes of one run
 
 -- two reports that show one state show the same
-shown_same : (r q : Report) (s t : State) (why end : End) (n m : ℕ) → Shows r s why n → Shows q t end m → s ≡ t → why ≡ end → n ≡ m → ShowSame r q
-shown_same r q s t why end n m h k here by steps = record {
+shown_same : (f : Option Frame) (r q : Report) (s t : State) (why end : End) (n m : ℕ) → Shows f r s why n → Shows f q t end m → s ≡ t → why ≡ end → n ≡ m → ShowSame r q
+shown_same f r q s t why end n m h k here by steps = record {
   calls = h.calls ∙ ap (λ u. u.calls) here ∙ sym k.calls;
+  counts = h.counts ∙ ap (λ u. counts_of f u.memory) here ∙ sym k.counts;
   regs = h.regs ∙ ap (λ u. u.core.regs) here ∙ sym k.regs;
   flags = h.flags ∙ ap (λ u. flag_image u.core.flags) here ∙ sym k.flags;
   ended = h.ended ∙ by ∙ sym k.ended;
   steps_done = h.steps_done ∙ steps ∙ sym k.steps_done;
 }
 
-all_all : (first : State) (steps : ℕ) (r q : Report) → Completes first steps r → Completes first steps q → ShowSame r q
-all_all first steps r q h k =
-    let one = one_end first steps steps steps h.last k.last (all_ends first steps r h) (all_ends first steps q k) in
-    shown_same r q h.last k.last _ _ steps steps h.shown k.shown one.state refl refl
+all_all : (f : Option Frame) (first : State) (steps : ℕ) (r q : Report) → Completes f first steps r → Completes f first steps q → ShowSame r q
+all_all f first steps r q h k =
+    let one = one_end first steps steps steps h.last k.last (all_ends f first steps r h) (all_ends f first steps q k) in
+    shown_same f r q h.last k.last _ _ steps steps h.shown k.shown one.state refl refl
 
-all_stop : (first : State) (steps : ℕ) (r q : Report) → Completes first steps r → Stops first steps q → ⊥
-all_stop first steps r q h k =
-    let one = one_end first steps steps k.done h.last k.before (all_ends first steps r h) (stop_ends first steps q k) in
+all_stop : (f : Option Frame) (first : State) (steps : ℕ) (r q : Report) → Completes f first steps r → Stops f first steps q → ⊥
+all_stop f first steps r q h k =
+    let one = one_end first steps steps k.done h.last k.before (all_ends f first steps r h) (stop_ends f first steps q k) in
     let count = one.count in
     let fewer = k.fewer in
     omega arith
 
-all_beyond : (first : State) (steps n : ℕ) (r : Report) → Completes first steps r → MapsBeyond first steps n → ⊥
-all_beyond first steps n r h k =
-    let one = one_end first steps steps k.done h.last k.before (all_ends first steps r h) (beyond_ends first steps n k) in
+all_beyond : (f : Option Frame) (first : State) (steps n : ℕ) (r : Report) → Completes f first steps r → MapsBeyond first steps n → ⊥
+all_beyond f first steps n r h k =
+    let one = one_end first steps steps k.done h.last k.before (all_ends f first steps r h) (beyond_ends first steps n k) in
     let count = one.count in
     let fewer = k.fewer in
     omega arith
@@ -154,15 +157,15 @@ record SameStop (why end : Stop) (s t : State) : Type 0 where
 one_stop : (s t : State) (why end : Stop) → Stopped why s ≡ Stopped end t → SameStop why end s t
 one_stop s t why end e = record { cause = cc; state = cc }
 
-stop_stop : (first : State) (steps : ℕ) (r q : Report) → Stops first steps r → Stops first steps q → ShowSame r q
-stop_stop first steps r q h k =
-    let one = one_end first steps h.done k.done h.before k.before (stop_ends first steps r h) (stop_ends first steps q k) in
+stop_stop : (f : Option Frame) (first : State) (steps : ℕ) (r q : Report) → Stops f first steps r → Stops f first steps q → ShowSame r q
+stop_stop f first steps r q h k =
+    let one = one_end first steps h.done k.done h.before k.before (stop_ends f first steps r h) (stop_ends f first steps q k) in
     let stop = one_stop h.after k.after h.why k.why (sym h.stopped ∙ ap step one.state ∙ k.stopped) in
-    shown_same r q h.after k.after _ _ h.done k.done h.shown k.shown stop.state (ap end_of stop.cause) one.count
+    shown_same f r q h.after k.after _ _ h.done k.done h.shown k.shown stop.state (ap end_of stop.cause) one.count
 
-stop_beyond : (first : State) (steps n : ℕ) (r : Report) → Stops first steps r → MapsBeyond first steps n → ⊥
-stop_beyond first steps n r h k =
-    let one = one_end first steps h.done k.done h.before k.before (stop_ends first steps r h) (beyond_ends first steps n k) in
+stop_beyond : (f : Option Frame) (first : State) (steps n : ℕ) (r : Report) → Stops f first steps r → MapsBeyond first steps n → ⊥
+stop_beyond f first steps n r h k =
+    let one = one_end first steps h.done k.done h.before k.before (stop_ends f first steps r h) (beyond_ends first steps n k) in
     beyond_within _ n k.left k.beyond (subst KeepsBound one.state h.within)
 
 beyond_size : (n m : ℕ) (s t : Memory) → Beyond n s ≡ Beyond m t → n ≡ m
@@ -173,15 +176,15 @@ beyond_beyond first steps n m h k =
     let one = one_end first steps h.done k.done h.before k.before (beyond_ends first steps n h) (beyond_ends first steps m k) in
     beyond_size n m h.left k.left (sym h.beyond ∙ ap (λ s. apply_bounded s.memory (taken_up s)) one.state ∙ k.beyond)
 
-one_report : (first : State) (steps : ℕ) (r q : Report) → Runs first steps r → Runs first steps q → ShowSame r q
-one_report first steps r q (ToAll h) (ToAll k) = all_all first steps r q h k
-one_report first steps r q (ToAll h) (ToStop k) = absurd (all_stop first steps r q h k)
-one_report first steps r q (ToStop h) (ToAll k) = absurd (all_stop first steps q r k h)
-one_report first steps r q (ToStop h) (ToStop k) = stop_stop first steps r q h k
+one_report : (f : Option Frame) (first : State) (steps : ℕ) (r q : Report) → Runs f first steps r → Runs f first steps q → ShowSame r q
+one_report f first steps r q (ToAll h) (ToAll k) = all_all f first steps r q h k
+one_report f first steps r q (ToAll h) (ToStop k) = absurd (all_stop f first steps r q h k)
+one_report f first steps r q (ToStop h) (ToAll k) = absurd (all_stop f first steps q r k h)
+one_report f first steps r q (ToStop h) (ToStop k) = stop_stop f first steps r q h k
 
-report_beyond : (first : State) (steps n : ℕ) (r : Report) → Runs first steps r → MapsBeyond first steps n → ⊥
-report_beyond first steps n r (ToAll h) k = all_beyond first steps n r h k
-report_beyond first steps n r (ToStop h) k = stop_beyond first steps n r h k
+report_beyond : (f : Option Frame) (first : State) (steps n : ℕ) (r : Report) → Runs f first steps r → MapsBeyond first steps n → ⊥
+report_beyond f first steps n r (ToAll h) k = all_beyond f first steps n r h k
+report_beyond f first steps n r (ToStop h) k = stop_beyond f first steps n r h k
 
 -- ---- two outcomes of one trace
 
@@ -206,6 +209,7 @@ module _ (b : List ℕ) (log : Log) (steps : ℕ) where
   no_run_same : (r q : Report) → ShowsNoRun r → ShowsNoRun q → ShowSame r q
   no_run_same r q h k = record {
     calls = h.calls ∙ sym k.calls;
+    counts = h.counts ∙ sym k.counts;
     regs = h.regs ∙ sym k.regs;
     flags = h.flags ∙ sym k.flags;
     ended = h.ended ∙ sym k.ended;
@@ -216,13 +220,13 @@ module _ (b : List ℕ) (log : Log) (steps : ℕ) where
   reports_same r q (OfNoRun taken h) (OfNoRun again k) = no_run_same r q h k
   reports_same r q (OfNoRun taken h) (OfRun starts k) = absurd (starts_taken starts taken)
   reports_same r q (OfRun starts h) (OfNoRun taken k) = absurd (starts_taken starts taken)
-  reports_same r q (OfRun starts h) (OfRun again k) = one_report (first_state b log) steps r q h k
+  reports_same r q (OfRun starts h) (OfRun again k) = one_report (frame b) (first_state b log) steps r q h k
 
   report_not_beyond : (r : Report) (n : ℕ) → IsReport b log steps r → IsBeyond b log steps n → ⊥
   report_not_beyond r n (OfNoRun taken h) (AtStart k) = taken_large n taken k
   report_not_beyond r n (OfNoRun taken h) (AtStep starts k) = starts_taken starts taken
   report_not_beyond r n (OfRun starts h) (AtStart k) = starts_large n starts k
-  report_not_beyond r n (OfRun starts h) (AtStep again k) = report_beyond (first_state b log) steps n r h k
+  report_not_beyond r n (OfRun starts h) (AtStep again k) = report_beyond (frame b) (first_state b log) steps n r h k
 
   beyond_same : (n m : ℕ) → IsBeyond b log steps n → IsBeyond b log steps m → n ≡ m
   beyond_same n m (AtStart h) (AtStart k) = h.size ∙ sym k.size

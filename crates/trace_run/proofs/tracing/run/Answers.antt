@@ -1,4 +1,5 @@
 use Rattle.std.proofs.Common.{◌≡◌, ◌∙◌, ap, sym, refl, subst, Ok, arith}
+use Rattle.elf32_write.specs.Frame.{frame}
 use Rattle.syscall_log.specs.Meaning.{answers_of}
 use Rattle.x86_machine.specs.Stepping.{answers_from, state_of}
 use Rattle.trace_run.specs.Reports.{Reaches, ToAll, ToStop}
@@ -20,9 +21,9 @@ returns-in-Some c =
     let before = state_of c.loop-done.machine (answers_from c.loop-done.answers.log.now c.loop-done.answers.next) in
     let left = answers_from c.step-outcome.new.answers.log.now c.step-outcome.new.answers.next in
     let ended = sym c.in_ok-end.ensures ∙ ap Ok c.in-Some.is in
-    ToStop (ends _ c.args.steps c.loop-done.done before (state_of c.step-outcome.new.self left)
-    c.loop-done.invariant.reached c.loop-done-test.true c.report_of.result c.step-outcome.result c.in-Some.end
-    ended c.step-outcome.ensures.is (c.report_of.ensures left))
+    ToStop (ends (frame c.args.file.now) _ c.args.steps c.loop-done.done before (state_of c.step-outcome.new.self left)
+    c.loop-done.invariant.reached c.loop-done-test.true _ c.step-outcome.result c.in-Some.end
+    ended c.step-outcome.ensures.is (c.in_ok-report_of.ensures left))
 
 pub loop-done-preserved : goal.loop-done-preserved
 loop-done-preserved c =
@@ -46,5 +47,5 @@ returns c =
     ToAll (record {
       last = last;
       reached = subst (λ n. Reaches (state_of c.args.machine (answers_of c.args.log.now.answers)) n last) all c.loop-done.invariant.reached;
-      shown = c.report_of-2.ensures (answers_from c.loop-done.answers.log.now c.loop-done.answers.next);
+      shown = c.in_ok-report_of-2.ensures (answers_from c.loop-done.answers.log.now c.loop-done.answers.next);
     })
