@@ -28,9 +28,10 @@ use std::alloc::Global;
 use superset::{Piece, Site, target};
 use x86_insn::Flow;
 
-/// How many bytes of the private area stand before the counters, and how many a counter has.
+/// How many bytes of the private area stand before the counters.
 const FIRST_COUNTER: u32 = 64;
 
+/// How many bytes a counter has.
 const COUNTER_ROOM: u32 = 8;
 
 /// Appends the chains of sites to code whose first byte stands at `anchors.stub`. The bytes of the sites are those of the

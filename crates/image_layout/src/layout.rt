@@ -34,9 +34,10 @@ use std::alloc::Global;
 use superset::Site;
 use thiserror::Error;
 
-/// How many bytes the private area has without counters, and how many a counter has.
+/// How many bytes the private area has without counters.
 const PRIVATE_LEN: u64 = 64;
 
+/// How many bytes a counter has.
 const COUNTER_ROOM: u64 = 8;
 
 /// How many bytes a counted site has in the list behind the table.

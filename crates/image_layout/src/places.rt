@@ -1,12 +1,11 @@
 //! Where the code of sites stands, by its lengths alone.
 
 ghost use Rattle.std.specs.Prelude.{◌≡◌, ℕ, ◌+◌, ◌<◌, ◌≤◌, ◌^◌, length, slice_index, IfOk};
-ghost use Rattle.counter_hooks.specs.Rules.{picked};
 ghost use Rattle.std.specs.List.{All};
 ghost use Rattle.image_layout.specs.Layout.{pairs_by};
 ghost use Rattle.image_layout.specs.Parts.{chain_parts, parts, parts_len, placed, place_or, entry};
 ghost use Rattle.image_layout.specs.Measuring.{IsMeasured};
-ghost use Rattle.image_layout.specs.Pieces.{piece_len as piece_len_of, site_len as site_len_of, counter_len as counter_len_of};
+ghost use Rattle.image_layout.specs.Pieces.{piece_len as piece_len_of, counter_len as counter_len_of};
 ghost use Rattle.image_layout.specs.Sites.{AreShort, IsShort, AreBelow};
 
 use branch_lengthen::near_len;

@@ -1,5 +1,5 @@
 -- The block lies at the first place that has room, or none has.
-use Rattle.std.proofs.Common.{◌≡◌, ℕ, ◌+◌, ◌*◌, List, length, ap, sym, ◌∙◌, subst, arith}
+use Rattle.std.proofs.Common.{◌≡◌, ℕ, ◌+◌, List, length, ap, sym, ◌∙◌, subst, arith}
 use Rattle.map_table.specs.Pairs.{Ascend}
 use Rattle.map_table.specs.Paged.{table_size}
 use Rattle.counter_hooks.specs.Rules as rules

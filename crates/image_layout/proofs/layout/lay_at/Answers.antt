@@ -6,10 +6,9 @@ use Rattle.elf32_write.specs.Written.{up-le}
 use Rattle.lookup_stub.specs.laws.StubBytes.{stub_length}
 use Rattle.image_layout.specs.InPlace.{HasPieces}
 use Rattle.image_layout.specs.Layout.{moved, code_len, table_len}
-use Rattle.image_layout.specs.Pieces.{counted}
 use Rattle.image_layout.specs.laws.Blocks.{length-run_places}
 use Rattle.image_layout.specs.laws.SiteFacts.{are_short, are_whole}
-use Rattle.image_layout.specs.laws.LayFacts.{AreLaid, has_base, ascend, count, counted_few, chains_below}
+use Rattle.image_layout.specs.laws.LayFacts.{AreLaid, has_base, ascend, count, chains_below}
 use Rattle.image_layout.specs.laws.InPlacing.{has_pieces}
 use Rattle.image_layout.proofs.Laying.{lens_below, lens_small, lens_room, made_is, table_is, code_is, has_parts, plan_is}
 use Rattle.image_layout.proofs.layout.lay_at.Goals as goal
