@@ -2,13 +2,10 @@
 use Rattle.std.specs.Prelude.{◌≡◌, ℕ, List, Some, None, Result, Ok, Err}
 use Rattle.mv_base.specs.Memory.{Memory, read_fault, bytes_at}
 use Rattle.x86_insn.specs.declared.stop.Kind.TheVariants.{ReadFault}
+use Rattle.x86_insn.specs.declared.registers.Core.{Core}
 use Rattle.x86_insn.specs.declared.stop.Stop.{Stop}
 use Rattle.x86_insn.specs.declared.stop.Stop.TheVariants.{Trap}
 use Rattle.x86_insn.specs.Step as step
-use Rattle.x86_machine.specs.declared.running.Ran.{Ran}
-use Rattle.x86_machine.specs.declared.running.Ran.TheVariants.{Completed, Broken}
-use Rattle.x86_machine.specs.declared.turns.Turn.{Turn}
-use Rattle.x86_machine.specs.declared.turns.Turn.TheVariants.{Ended, Halted}
 
 -- a read gives the bytes, or a trap at the first of them that is not mapped
 pub record AreRead (m : Memory) (at len : ℕ) (bytes : List ℕ) : Type 0 where
@@ -24,17 +21,17 @@ abbrev pub IsRead : Memory → ℕ → ℕ → Result (List ℕ) Stop → Type 0
 IsRead m at len (Ok bytes) = AreRead m at len bytes
 IsRead m at len (Err why) = IsUnread m at len why
 
--- a turn with the memory that it leaves
-abbrev pub turned : {E : Type 0} → Turn E → Memory → step.Turn E
-turned (Ended core end) m = step.Ended core m end
-turned (Halted why) m = step.Halted why
+-- a turn with the core and memory that it leaves
+abbrev pub turned : {E : Type 0} → Result E Stop → Core → Memory → step.Turn E
+turned (Ok end) c m = step.Ended c m end
+turned (Err why) c m = step.Halted why
 
--- memory is as before where a turn halts
-abbrev pub KeptWhereHalted : {E : Type 0} → Turn E → Memory → Memory → Type 0
-KeptWhereHalted (Ended core end) old new = Unit {0}
-KeptWhereHalted (Halted why) old new = new ≡ old
+-- core and memory are as before where a turn halts
+abbrev pub KeptWhereHalted : {E : Type 0} → Result E Stop → Core → Memory → Core → Memory → Type 0
+KeptWhereHalted (Ok end) c m c' m' = Unit {0}
+KeptWhereHalted (Err why) c m c' m' = (c' ≡ c) × (m' ≡ m)
 
--- rounds with the memory that they leave
-abbrev pub ran : Ran → Memory → step.Rounds
-ran (Completed core) m = step.Completed core m
-ran (Broken why core) m = step.Broken why core m
+-- rounds with the core and memory that they leave
+abbrev pub ran : Result (Unit {0}) Stop → Core → Memory → step.Rounds
+ran (Ok _) c m = step.Completed c m
+ran (Err why) c m = step.Broken why c m

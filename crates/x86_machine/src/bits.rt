@@ -8,7 +8,7 @@ use crate::operands::{ends, ends_in, got_rm, got_src, reg, reg_value, set_reg, w
 use x86_alu::{bit, double, scan, shift};
 use x86_insn::{AccessBytes, Ask, BitOp, Core, Count, Reg, Rm, ShiftOp, Src, Width};
 
-fn count_of(count: Count, core: &Core) -> u8
+pub fn count_of(count: Count, core: &Core) -> u8
     ensures { result ≡ count_of count core.now }
 {
     match count {

@@ -5,6 +5,8 @@ ghost use Rattle.x86_insn.specs.Step.{fetch as fetch_of};
 ghost use Rattle.proc_image.specs.Paged.{cells};
 ghost use Rattle.x86_machine.specs.Machines.{fetched_as};
 
+use crate::cache::InsnCache;
+use crate::spelling::Spelling;
 use proc_image::Memory;
 use x86_decode::{Decoded, decode};
 use x86_insn::Insn;
@@ -17,8 +19,8 @@ pub enum Fetched {
     Unknown,
 }
 
-/// What stands at an address.
-pub fn fetch(memory: &Memory, at: u32) -> Fetched
+/// What stands at an address. An instruction is remembered.
+pub fn fetch(memory: &Memory, at: u32, cache: &mut InsnCache) -> Fetched
     ensures { fetch_of (cells memory.now) at ≡ fetched_as result }
 {
     let mut bytes = [0; 15];
@@ -27,7 +29,10 @@ pub fn fetch(memory: &Memory, at: u32) -> Fetched
         return Fetched::Absent;
     }
     match decode(&bytes[..len]) {
-        Decoded::Insn { insn, len } => Fetched::Found { insn, len },
+        Decoded::Insn { insn, len } => {
+            cache.keep(at, Spelling::new(bytes, len, insn));
+            Fetched::Found { insn, len }
+        }
         Decoded::Short => Fetched::Unknown,
         Decoded::Unknown => Fetched::Unknown,
     }

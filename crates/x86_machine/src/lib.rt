@@ -5,20 +5,25 @@
 //! `transfers`, over `operands` and `conditions`; each equals its line of the definition in x86_insn.
 //!
 //! `turns` asks, reads and writes for any of them, `running` repeats that for the iterations of a string instruction,
-//! `system` applies the effects of an answer. `fetching` finds the instruction. `machine` has the machine and its step,
-//! `starting` its first state, `call` the system calls that it made.
+//! `inside` has the commonest instructions that reach no memory, with registers and flags changed in place.
+//!
+//! `system` applies the effects of an answer. `fetching` finds the instruction, and `cache` remembers it beside its
+//! `spelling`. `machine` has the machine and its step, `starting` its first state, `call` the system calls that it made.
 #![tactic(auto)]
 
 mod arithmetic;
 mod bits;
+mod cache;
 pub mod call;
 mod conditions;
 mod fetching;
+mod inside;
 pub mod machine;
 mod moves;
 mod operands;
 mod round;
 mod running;
+mod spelling;
 mod stack;
 pub mod starting;
 mod strings;

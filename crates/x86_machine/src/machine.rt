@@ -3,16 +3,18 @@
 ghost use Rattle.std.specs.Prelude.{◌≡◌, ◌+◌, ◌-◌, ◌≤◌, [], ℕ, List, length};
 ghost use Rattle.mv_base.specs.Effects.{Answer as AnswerOf};
 ghost use Rattle.x86_insn.specs.Round.{limit, hop};
-ghost use Rattle.x86_insn.specs.Step.{call_of, rounds, turn, after_rounds, after_hop, system};
+ghost use Rattle.x86_insn.specs.Step.{Found, fetch as fetch_of, call_of, rounds, turn, after_rounds, after_hop, system};
 ghost use Rattle.x86_insn.specs.TakenUp.{first_effects};
 ghost use Rattle.proc_image.specs.Paged.{cells};
 ghost use Rattle.x86_machine.specs.Stepping.{answers_from, core_of, state_of, outcome_of, refused_as, ComesTo, IsStep, KeepsRoom};
 
+use crate::cache::InsnCache;
 use crate::call::{Call, CallList};
 use crate::fetching::{Fetched, fetch};
-use crate::running::{Ran, run_rounds};
+use crate::inside::{done_inside, goes_to};
+use crate::running::run_rounds;
 use crate::system::apply_all;
-use crate::turns::{Transfer, Turn, take_turn};
+use crate::turns::{Transfer, take_turn};
 use proc_image::{EffectFault, Memory};
 use syscall_log::{Answer, Log};
 use x86_insn::{Core, Flags, Flow, Insn, Kind, Reg, Stop};
@@ -47,6 +49,7 @@ pub struct Machine {
     pub flags: Flags,
     pub memory: Memory,
     pub calls: CallList,
+    pub(crate) cache: InsnCache,
 }
 
 impl Machine {
@@ -68,23 +71,63 @@ impl Machine {
             answers.new.next }
         ensures spare { KeepsRoom self.old self.new }
     {
-        match fetch(&self.memory, self.eip) {
+        match self.cache.standing(&self.memory, self.eip) {
+            Some(spelling) => {
+                let insn = spelling.insn;
+                let len = spelling.len;
+                self.execute(&insn, len, answers)
+            }
+            None => self.step_anew(answers),
+        }
+    }
+
+    /// The same, where no instruction is remembered that stands there.
+    fn step_anew(&mut self, answers: &mut Answers) -> Outcome
+        requires next { answers.old.next ≤ length answers.old.log.now.answers }
+        requires room { length answers.old.log.now.answers ≤ self.old.calls.spare +
+            answers.old.next }
+        ensures is { IsStep (state_of self.old (answers_from answers.old.log.now
+            answers.old.next)) result (state_of self.new (answers_from answers.new.log.now
+            answers.new.next)) }
+        ensures log { answers.new.log.now ≡ answers.old.log.now }
+        ensures next { answers.new.next ≤ length answers.new.log.now.answers }
+        ensures room { length answers.new.log.now.answers ≤ self.new.calls.spare +
+            answers.new.next }
+        ensures spare { KeepsRoom self.old self.new }
+    {
+        match fetch(&self.memory, self.eip, &mut self.cache) {
             Fetched::Absent => Outcome::Trap(Kind::FetchFault, self.eip),
             Fetched::Unknown => Outcome::Outside,
-            Fetched::Found { insn, len } => {
-                let next = self.eip.wrapping_add(u32::from(len));
-                match insn.next_kind() {
-                    Flow::Plain | Flow::Trap => self.run(&insn, next),
-                    Flow::System => self.call_system(next, answers),
-                    Flow::Jump
-                    | Flow::Branch
-                    | Flow::Count
-                    | Flow::Call
-                    | Flow::JumpVia
-                    | Flow::CallVia
-                    | Flow::Return => self.transfer(&insn, next),
-                }
-            }
+            Fetched::Found { insn, len } => self.execute(&insn, len, answers),
+        }
+    }
+
+    /// The step by the instruction that stands there, with its length.
+    fn execute(&mut self, insn: &Insn, len: u8, answers: &mut Answers) -> Outcome
+        requires found { fetch_of (cells self.old.memory) self.old.eip ≡ Found insn.now len }
+        requires next { answers.old.next ≤ length answers.old.log.now.answers }
+        requires room { length answers.old.log.now.answers ≤ self.old.calls.spare +
+            answers.old.next }
+        ensures is { IsStep (state_of self.old (answers_from answers.old.log.now
+            answers.old.next)) result (state_of self.new (answers_from answers.new.log.now
+            answers.new.next)) }
+        ensures log { answers.new.log.now ≡ answers.old.log.now }
+        ensures next { answers.new.next ≤ length answers.new.log.now.answers }
+        ensures room { length answers.new.log.now.answers ≤ self.new.calls.spare +
+            answers.new.next }
+        ensures spare { KeepsRoom self.old self.new }
+    {
+        let next = self.eip.wrapping_add(u32::from(len));
+        match insn.next_kind() {
+            Flow::Plain | Flow::Trap => self.run(insn, next),
+            Flow::System => self.call_system(next, answers),
+            Flow::Jump
+            | Flow::Branch
+            | Flow::Count
+            | Flow::Call
+            | Flow::JumpVia
+            | Flow::CallVia
+            | Flow::Return => self.transfer(insn, next),
         }
     }
 
@@ -117,16 +160,20 @@ impl Machine {
             (state_of self.new answers) }
         ensures calls { self.new.calls ≡ self.old.calls }
     {
-        match run_rounds(insn, self.core(), &mut self.memory) {
-            Ran::Completed(core) => {
-                self.set_core(core);
+        let mut core = self.core();
+        if done_inside(insn, &mut core) {
+            self.set_core(core);
+            self.eip = next;
+            return Outcome::Next;
+        }
+        let ran = run_rounds(insn, &mut core, &mut self.memory);
+        self.set_core(core);
+        match ran {
+            Ok(()) => {
                 self.eip = next;
                 Outcome::Next
             }
-            Ran::Broken(stop, core) => {
-                self.set_core(core);
-                outcome_of(stop)
-            }
+            Err(stop) => outcome_of(stop),
         }
     }
 
@@ -138,19 +185,31 @@ impl Machine {
             (state_of self.new answers) }
         ensures calls { self.new.calls ≡ self.old.calls }
     {
-        let core = self.core();
-        let transfer = Transfer {
-            next,
-            insn,
-            core: &core,
-        };
-        match take_turn(&mut self.memory, &transfer) {
-            Turn::Ended { core, end } => {
-                self.set_core(core);
-                self.eip = end;
+        match goes_to(next, insn, self.flags) {
+            Some(to) => {
+                self.eip = to;
                 Outcome::Next
             }
-            Turn::Halted(stop) => outcome_of(stop),
+            None => self.transfer_apart(insn, next),
+        }
+    }
+
+    /// The same for any transfer.
+    fn transfer_apart(&mut self, insn: &Insn, next: u32) -> Outcome
+        ensures is { (answers : List AnswerOf) → ComesTo []
+            (after_hop (state_of self.old answers) (turn (cells self.old.memory)
+            (hop next insn.now (core_of self.old)))) (state_of self.old answers) result
+            (state_of self.new answers) }
+        ensures calls { self.new.calls ≡ self.old.calls }
+    {
+        let mut core = self.core();
+        match take_turn(&mut self.memory, &mut core, &Transfer { next, insn }) {
+            Ok(to) => {
+                self.set_core(core);
+                self.eip = to;
+                Outcome::Next
+            }
+            Err(stop) => outcome_of(stop),
         }
     }
 

@@ -55,7 +55,7 @@ pub fn lea_round(width: Width, dst: Reg, mem: &Mem, core: &Core) -> Ask<bool>
     )
 }
 
-fn movx_value(signed: bool, from: Width, to: Width, value: u32) -> u32
+pub fn movx_value(signed: bool, from: Width, to: Width, value: u32) -> u32
     requires { value < modulus from }
     ensures is { result ≡ movx_value signed from to value }
     ensures fits { result < modulus to }

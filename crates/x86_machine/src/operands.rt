@@ -105,7 +105,7 @@ fn set_byte_reg(regs: [u32; 8], number: usize, byte: u32) -> [u32; 8]
 }
 
 /// The registers after one of them gets a value of a width; the rest of it stays.
-fn regs_with(width: Width, regs: [u32; 8], reg: Reg, value: u32) -> [u32; 8]
+pub fn regs_with(width: Width, regs: [u32; 8], reg: Reg, value: u32) -> [u32; 8]
     requires { value < modulus width }
     ensures { result ≡ regs_with width regs reg value }
 {

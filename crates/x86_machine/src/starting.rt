@@ -3,6 +3,7 @@
 ghost use Rattle.elf32_read.specs.Reading.{IsImage};
 ghost use Rattle.x86_machine.specs.Starting.{IsStarted};
 
+use crate::cache::InsnCache;
 use crate::call::CallList;
 use crate::machine::Machine;
 use elf32_read::Image;
@@ -79,6 +80,7 @@ impl Machine {
             flags: NO_FLAGS,
             memory,
             calls,
+            cache: InsnCache::new(alloc)?,
         })
     }
 }

@@ -300,3 +300,21 @@ fn bounds_mapped_pages(rt: HostRuntime) -> Result<(), Fail> {
     assert_eq!(rt; (steps, outcome), (0, Outcome::TooLarge(67_112_960)));
     Ok(())
 }
+
+#[test]
+fn runs_the_bytes_that_stand_there_now(rt: HostRuntime) -> Result<(), Fail> {
+    let alloc = rt.alloc();
+    let log = log_of(alloc, Vec::new(alloc))?;
+    // mov al,1; hlt, and then mov al,2; nop; hlt at the same addresses
+    let (mut machine, _, _) = ran(alloc, b"\xB0\x01\xF4", &log)?;
+    let bytes = file(alloc, b"\xB0\x02\x90\xF4")?;
+    let image = read_image(alloc, &bytes).ok().ok_or("an image")?;
+    let Machine { memory, calls, .. } = Machine::start(alloc, &image, &bytes, &log)?;
+    machine.memory = memory;
+    machine.calls = calls;
+    machine.eip = 0x0804_8054;
+    let (steps, outcome) = run(&mut machine, &log);
+    assert_eq!(rt; (steps, outcome), (2, Outcome::Trap(Kind::Protection, 0)));
+    assert_eq!(rt; machine.regs[0], 2);
+    Ok(())
+}

@@ -11,31 +11,31 @@ use crate::round::{hop, round};
 use proc_image::Memory;
 use x86_insn::{AccessBytes, AccessLen, Ask, Core, Insn, Kind, Stop};
 
-/// Who asks: what it asks by the byte lists that it has read so far.
+/// Who asks: what it asks by the core and by the byte lists that it has read so far.
 pub trait Asks<E: Drop> {
     ghost use Rattle.std.specs.Prelude.{◌≡◌, ℕ, List};
     ghost use Rattle.x86_insn.specs.declared.ask.Ask.{Ask};
+    ghost use Rattle.x86_insn.specs.declared.registers.Core.{Core};
 
-    ghost asked: { Self → List (List ℕ) → Ask E };
+    ghost asked: { Self → Core → List (List ℕ) → Ask E };
 
-    fn ask(&self, got: &[AccessBytes]) -> Ask<E>
-        ensures { result ≡ asked self.now got.now };
+    fn ask(&self, core: &Core, got: &[AccessBytes]) -> Ask<E>
+        ensures { result ≡ asked self.now core.now got.now };
 }
 
 /// An instruction of flow Plain or Trap asks for its next round.
 #[derive(Clone, Copy)]
 pub struct Rounds<'a> {
     pub insn: &'a Insn,
-    pub core: &'a Core,
 }
 
 impl<'a> Asks<bool> for Rounds<'a> {
     ghost use Rattle.x86_insn.specs.Round.{round};
 
-    ghost asked = { λ a. round a.insn.now a.core.now };
+    ghost asked = { λ a. round a.insn.now };
 
-    fn ask(&self, got: &[AccessBytes]) -> Ask<bool> {
-        round(self.insn, self.core, got)
+    fn ask(&self, core: &Core, got: &[AccessBytes]) -> Ask<bool> {
+        round(self.insn, core, got)
     }
 }
 
@@ -44,24 +44,16 @@ impl<'a> Asks<bool> for Rounds<'a> {
 pub struct Transfer<'a> {
     pub next: u32,
     pub insn: &'a Insn,
-    pub core: &'a Core,
 }
 
 impl<'a> Asks<u32> for Transfer<'a> {
     ghost use Rattle.x86_insn.specs.Round.{hop};
 
-    ghost asked = { λ a. hop a.next a.insn.now a.core.now };
+    ghost asked = { λ a. hop a.next a.insn.now };
 
-    fn ask(&self, got: &[AccessBytes]) -> Ask<u32> {
-        hop(self.next, self.insn, self.core, got)
+    fn ask(&self, core: &Core, got: &[AccessBytes]) -> Ask<u32> {
+        hop(self.next, self.insn, core, got)
     }
-}
-
-/// What asks come to: an end, or a stop, at which memory is as before.
-#[derive(Drop)]
-pub enum Turn<E: Drop> {
-    Ended { core: Core, end: E },
-    Halted(Stop),
 }
 
 /// The bytes at a place.
@@ -76,79 +68,113 @@ fn read(memory: &Memory, at: u32, len: AccessLen) -> Result<AccessBytes, Stop>
     }
 }
 
-/// What the asks come to that follow a read of no, one and two byte lists.
+/// What the asks come to: the core and memory of the end, with what is said besides.
+///
+/// # Errors
+///
+/// The stop. Core and memory are as before.
 #[tactic(auto, unfolding(x86_insn::specs::Step::asks))]
-pub fn take_turn<E: Drop, A: Asks<E>>(memory: &mut Memory, asker: &A) -> Turn<E>
-    ensures is { turn_of (cells memory.old) (A.Asks.asked asker.now) ≡ turned result
+pub fn take_turn<E: Drop, A: Asks<E>>(
+    memory: &mut Memory,
+    core: &mut Core,
+    asker: &A,
+) -> Result<E, Stop>
+    ensures is { turn_of (cells memory.old) (A.Asks.asked asker.now core.old) ≡ turned result
+        core.new (cells memory.new) }
+    ensures kept { KeptWhereHalted result core.old (cells memory.old) core.new
         (cells memory.new) }
-    ensures kept { KeptWhereHalted result (cells memory.old) (cells memory.new) }
 {
-    match asker.ask(&[]) {
+    match asker.ask(core, &[]) {
         Ask::Reads { at, len } => match read(memory, at, len) {
-            Ok(bytes) => after_one(memory, asker, bytes),
-            Err(stop) => Turn::Halted(stop),
+            Ok(bytes) => after_one(memory, core, asker, bytes),
+            Err(stop) => Err(stop),
         },
-        Ask::Halts(stop) => Turn::Halted(stop),
-        Ask::Ends { core, write, end } => ended(memory, core, write, end),
+        Ask::Halts(stop) => Err(stop),
+        Ask::Ends {
+            core: after,
+            write,
+            end,
+        } => ended(memory, core, after, write, end),
     }
 }
 
+/// The same after a read of one byte list.
 #[tactic(auto, unfolding(x86_insn::specs::Step::asks))]
-fn after_one<E: Drop, A: Asks<E>>(memory: &mut Memory, asker: &A, first: AccessBytes) -> Turn<E>
-    ensures is { asks 1 (cells memory.old) (A.Asks.asked asker.now) (first ∷ []) ≡ turned result
+fn after_one<E: Drop, A: Asks<E>>(
+    memory: &mut Memory,
+    core: &mut Core,
+    asker: &A,
+    first: AccessBytes,
+) -> Result<E, Stop>
+    ensures is { asks 1 (cells memory.old) (A.Asks.asked asker.now core.old) (first ∷ []) ≡ turned
+        result core.new (cells memory.new) }
+    ensures kept { KeptWhereHalted result core.old (cells memory.old) core.new
         (cells memory.new) }
-    ensures kept { KeptWhereHalted result (cells memory.old) (cells memory.new) }
 {
     let got = [first];
-    match asker.ask(&got) {
+    match asker.ask(core, &got) {
         Ask::Reads { at, len } => match read(memory, at, len) {
             Ok(bytes) => {
                 let [first] = got;
-                after_two(memory, asker, first, bytes)
+                after_two(memory, core, asker, first, bytes)
             }
-            Err(stop) => Turn::Halted(stop),
+            Err(stop) => Err(stop),
         },
-        Ask::Halts(stop) => Turn::Halted(stop),
-        Ask::Ends { core, write, end } => ended(memory, core, write, end),
+        Ask::Halts(stop) => Err(stop),
+        Ask::Ends {
+            core: after,
+            write,
+            end,
+        } => ended(memory, core, after, write, end),
     }
 }
 
+/// The same after a read of two byte lists.
 #[tactic(auto, unfolding(x86_insn::specs::Step::asks))]
 fn after_two<E: Drop, A: Asks<E>>(
     memory: &mut Memory,
+    core: &mut Core,
     asker: &A,
     first: AccessBytes,
     second: AccessBytes,
-) -> Turn<E>
-    ensures is { asks 0 (cells memory.old) (A.Asks.asked asker.now) (first ∷ second ∷ []) ≡
-        turned result (cells memory.new) }
-    ensures kept { KeptWhereHalted result (cells memory.old) (cells memory.new) }
+) -> Result<E, Stop>
+    ensures is { asks 0 (cells memory.old) (A.Asks.asked asker.now core.old)
+        (first ∷ second ∷ []) ≡ turned result core.new (cells memory.new) }
+    ensures kept { KeptWhereHalted result core.old (cells memory.old) core.new
+        (cells memory.new) }
 {
-    match asker.ask(&[first, second]) {
+    match asker.ask(core, &[first, second]) {
         Ask::Reads { at, len } => match read(memory, at, len) {
-            Ok(_) => Turn::Halted(Stop::Outside),
-            Err(stop) => Turn::Halted(stop),
+            Ok(_) => Err(Stop::Outside),
+            Err(stop) => Err(stop),
         },
-        Ask::Halts(stop) => Turn::Halted(stop),
-        Ask::Ends { core, write, end } => ended(memory, core, write, end),
+        Ask::Halts(stop) => Err(stop),
+        Ask::Ends {
+            core: after,
+            write,
+            end,
+        } => ended(memory, core, after, write, end),
     }
 }
 
-/// An end: its write is made, unless it faults.
+/// An end: its write is made, unless it faults, and its core is taken.
 fn ended<E: Drop>(
     memory: &mut Memory,
-    core: Core,
+    core: &mut Core,
+    after: Core,
     write: Option<(u32, AccessBytes)>,
     end: E,
-) -> Turn<E>
-    ensures is { written (cells memory.old) core write end ≡ turned result (cells memory.new) }
-    ensures kept { KeptWhereHalted result (cells memory.old) (cells memory.new) }
+) -> Result<E, Stop>
+    ensures is { written (cells memory.old) after write end ≡ turned result core.new
+        (cells memory.new) }
+    ensures kept { KeptWhereHalted result core.old (cells memory.old) core.new
+        (cells memory.new) }
 {
-    let Some((at, bytes)) = write else {
-        return Turn::Ended { core, end };
-    };
-    match memory.write_bytes(at, bytes.as_slice()) {
-        Ok(()) => Turn::Ended { core, end },
-        Err(fault) => Turn::Halted(Stop::Trap(Kind::WriteFault, fault)),
+    if let Some((at, bytes)) = write
+        && let Err(fault) = memory.write_bytes(at, bytes.as_slice())
+    {
+        return Err(Stop::Trap(Kind::WriteFault, fault));
     }
+    *core = after;
+    Ok(end)
 }

@@ -4,7 +4,7 @@ use Rattle.x86_insn.specs.declared.insn.Insn.{Insn}
 use Rattle.x86_insn.specs.Spelling.{decoded}
 use Rattle.x86_insn.specs.Step.{found, fetch}
 use Rattle.proc_image.specs.Paged.{cells}
-use Rattle.x86_machine.proofs.Fetched.{fetch-absent, fetch-decoded, front}
+use Rattle.x86_machine.proofs.Fetched.{fetch-absent, fetch-decoded, front, front-decoded}
 use Rattle.x86_machine.proofs.fetching.fetch.Goals as goal
 
 pub returns-then-len-eq0 : goal.returns-then-len-eq0
@@ -23,3 +23,6 @@ returns-in-Short c = copied _ _ _ _ _ _ c.exec_bytes-len.ensures.copied c.exec_b
 
 pub returns-in-Unknown : goal.returns-in-Unknown
 returns-in-Unknown c = copied _ _ _ _ _ _ c.exec_bytes-len.ensures.copied c.exec_bytes-len.ensures.number c.if-len-eq0.false c.in-Unknown.ensures.0
+
+pub new-requires-clause-spells : goal.new-requires-clause-spells
+new-requires-clause-spells c = front-decoded _ _ _ _ c.in-Insn.ensures.0

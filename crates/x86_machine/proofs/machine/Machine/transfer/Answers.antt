@@ -1,25 +1,14 @@
-use Rattle.std.proofs.Common.{◌∙◌, ap, sym, subst}
+use Rattle.std.proofs.Common.{ap, refl}
 use Rattle.x86_insn.specs.Round.{hop}
-use Rattle.x86_insn.specs.State.{Next, Stopped}
-use Rattle.x86_insn.specs.Step.{turn, after_hop}
+use Rattle.x86_insn.specs.Step.{after_hop}
 use Rattle.proc_image.specs.Paged.{cells}
-use Rattle.x86_machine.specs.declared.machine.Machine.{Machine}
-use Rattle.x86_machine.specs.Stepping.{state_of, core_of, ComesTo}
-use Rattle.x86_machine.proofs.Coming.{comes, stops}
+use Rattle.x86_machine.specs.Stepping.{state_of, core_of}
+use Rattle.x86_machine.proofs.Coming.{comes}
+use Rattle.x86_machine.proofs.Rounding.{turn-inside}
 use Rattle.x86_machine.proofs.machine.Machine.transfer.Goals as goal
 
-pub returns-in-Ended-clause-is : goal.returns-in-Ended-clause-is
-returns-in-Ended-clause-is c = λ answers.
+pub returns-in-Some-clause-is : goal.returns-in-Some-clause-is
+returns-in-Some-clause-is c = λ answers.
     let m = c.args.self.now in
-    let i = c.args.insn.now in
-    comes _ _ _ (ap (after_hop (state_of m answers)) (ap (λ k. turn (cells m.memory) (hop c.args.next i k)) (sym c.core-core.ensures) ∙ c.in-Ended.ensures.is)
-    ∙ ap (λ (n : Machine). Next (state_of (record n { eip = c.in-Ended.end }) answers)) (sym c.set_core.ensures))
-
-pub returns-in-Halted-clause-is : goal.returns-in-Halted-clause-is
-returns-in-Halted-clause-is c = λ answers.
-    let m = c.args.self.now in
-    let i = c.args.insn.now in
-    let why = c.in-Halted.stop in
-    let stopped = ap (after_hop (state_of m answers)) (ap (λ k. turn (cells m.memory) (hop c.args.next i k)) (sym c.core-core.ensures) ∙ c.in-Halted.ensures.is)
-    ∙ ap (λ k. Stopped why (record (state_of m answers) { memory = k })) (sym c.in-Halted.ensures.kept) in
-    subst (λ r. ComesTo _ (after_hop (state_of m answers) (turn (cells m.memory) (hop c.args.next i (core_of m)))) (state_of m answers) r (record (state_of m answers) { memory = cells c.take_turn.new.memory })) (sym c.outcome_of.ensures) (stops _ (state_of m answers) _ why stopped)
+    let core = core_of m in
+    comes _ _ _ (ap (after_hop (state_of m answers)) (turn-inside (hop c.args.next c.args.insn.now core) core (cells m.memory) c.in-Some.to (c.in-Some.ensures core refl)))

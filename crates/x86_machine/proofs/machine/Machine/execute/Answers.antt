@@ -1,14 +1,8 @@
 use Rattle.std.proofs.Common.{◌∙◌, ◌+◌, ◌%◌, ◌^◌, ℕ, ap, sym, inl, inr}
 use Rattle.x86_insn.specs.declared.insn.Flow.TheVariants as flow
 use Rattle.x86_machine.specs.Stepping.{answers_from, state_of}
-use Rattle.x86_machine.proofs.Coming.{step-comes, absent-stops, unknown-stops}
-use Rattle.x86_machine.proofs.machine.Machine.step.Goals as goal
-
-pub returns-in-Absent-clause-is : goal.returns-in-Absent-clause-is
-returns-in-Absent-clause-is c = absent-stops (state_of c.args.self.now (answers_from c.args.answers.now.log.now c.args.answers.now.next)) (c.in-Absent.ensures {u = tt})
-
-pub returns-in-Unknown-clause-is : goal.returns-in-Unknown-clause-is
-returns-in-Unknown-clause-is c = unknown-stops (state_of c.args.self.now (answers_from c.args.answers.now.log.now c.args.answers.now.next)) (c.in-Unknown.ensures {u = tt})
+use Rattle.x86_machine.proofs.Coming.{step-comes}
+use Rattle.x86_machine.proofs.machine.Machine.execute.Goals as goal
 
 pub returns-in-Plain-clause-is : goal.returns-in-Plain-clause-is
 returns-in-Plain-clause-is c =
@@ -16,7 +10,7 @@ returns-in-Plain-clause-is c =
     let s = state_of c.args.self.now answers in
     let next : ℕ = (c.args.self.now.eip + c.from.result) % 2 ^ 32 in
     let here = ap (λ n. (c.args.self.now.eip + n) % 2 ^ 32) c.from.ensures in
-    let comes = step-comes s next c.in-Found.len c.in-Found.insn here (c.in-Found.ensures {u = tt}) in
+    let comes = step-comes s next c.args.len c.args.insn.now here c.requires.found in
     elim c.in-Plain.is [
       | inl e ↦ comes flow.Plain c.run.result (state_of c.run.new.self answers) (sym c.next_kind.ensures ∙ e) (c.run.ensures.is answers)
       | inr e ↦ comes flow.Trap c.run.result (state_of c.run.new.self answers) (sym c.next_kind.ensures ∙ e) (c.run.ensures.is answers)
@@ -27,7 +21,7 @@ returns-in-System-clause-is c =
     let s = state_of c.args.self.now (answers_from c.args.answers.now.log.now c.args.answers.now.next) in
     let next : ℕ = (c.args.self.now.eip + c.from.result) % 2 ^ 32 in
     let here = ap (λ n. (c.args.self.now.eip + n) % 2 ^ 32) c.from.ensures in
-    step-comes s next c.in-Found.len c.in-Found.insn here (c.in-Found.ensures {u = tt}) flow.System c.call_system.result _ (sym c.next_kind.ensures ∙ c.in-System.is) c.call_system.ensures.is
+    step-comes s next c.args.len c.args.insn.now here c.requires.found flow.System c.call_system.result _ (sym c.next_kind.ensures ∙ c.in-System.is) c.call_system.ensures.is
 
 pub returns-in-Jump-clause-is : goal.returns-in-Jump-clause-is
 returns-in-Jump-clause-is c =
@@ -37,7 +31,7 @@ returns-in-Jump-clause-is c =
     let next : ℕ = (c.args.self.now.eip + c.from.result) % 2 ^ 32 in
     let here = ap (λ n. (c.args.self.now.eip + n) % 2 ^ 32) c.from.ensures in
     let r = c.transfer.result in
-    let by = step-comes s next c.in-Found.len c.in-Found.insn here (c.in-Found.ensures {u = tt}) in
+    let by = step-comes s next c.args.len c.args.insn.now here c.requires.found in
     let kind = sym c.next_kind.ensures in
     let is = c.transfer.ensures.is answers in
     elim c.in-Jump.is [
