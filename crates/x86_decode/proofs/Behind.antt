@@ -11,7 +11,7 @@ use Rattle.x86_insn.specs.Rows.{rows}
 use Rattle.x86_insn.specs.Spelling.{is_opcode}
 use Rattle.x86_insn.specs.Scanning.{Scan, Nothing, later, best, scan_operands, scan_opcode, scan_lead, scan_row, scan_rows}
 use Rattle.x86_insn.specs.Agreeing.{both_true, true_not_false}
-use Rattle.x86_decode.specs.Candidates.{Rest, whole_rows, keep_lead, behind_byte, rows_behind, keep_form, forms_at, scan_rest, scan_forms, is_group, group_at, single_at}
+use Rattle.x86_decode.specs.Candidates.{Rest, whole_rows, keep_lead, behind_byte, rows_behind, keep_form, forms_at, scan_rest, scan_forms}
 use Rattle.x86_decode.proofs.Best.{best_nothing, best_later}
 
 rest_of_rows : (rs : List Row) (m : Marks) (s : List ℕ) → scan_rest (whole_rows rs) m s ≡ scan_rows rs m s
@@ -113,27 +113,13 @@ pub at_hinted : (b : ℕ) (m : Marks) (s : List ℕ) → scan_rest (rows_behind 
 unfolding rows_behind
 at_hinted b m s = form_step [] b m s (behind_byte 0x1E (behind_byte 0x0F (whole_rows rows))) (unfold rows in refl) refl
 
--- ---- one form, or several
+-- ---- one form, or none
 
 pub one_form : (f : Form) (fs : List Form) (m : Marks) (b : ℕ) (s : List ℕ) (r : Scan) → f ∷ [] ≡ fs → r ≡ scan_operands f m b s → r ≡ scan_forms fs m b s
 one_form f fs m b s r e h = h ∙ sym (best_nothing (scan_operands f m b s)) ∙ ap (λ (gs : List Form). scan_forms gs m b s) e
 
 pub no_form : (fs : List Form) (m : Marks) (b : ℕ) (s : List ℕ) → [] ≡ fs → Nothing ≡ scan_forms fs m b s
 no_form fs m b s e = ap (λ (gs : List Form). scan_forms gs m b s) e
-
-pub single_form : (lead : List ℕ) (f : Form) (m : Marks) (b : ℕ) (s : List ℕ) (r : Scan) → f ∷ [] ≡ single_at b lead → r ≡ scan_operands f m b s → r ≡ scan_forms (forms_at b (rows_behind lead)) m b s
-single_form lead f m b s r e h = by_test (is_group b lead) e
-  where
-    by_test : (v : Bool) → f ∷ [] ≡ (elim v as (λ _. List Form) [ true ↦ [] | false ↦ forms_at b (rows_behind lead) ]) → r ≡ scan_forms (forms_at b (rows_behind lead)) m b s
-    by_test true p = absurd (cc p)
-    by_test false p = one_form f (forms_at b (rows_behind lead)) m b s r p h
-
-pub group_forms : (lead : List ℕ) (m : Marks) (b : ℕ) (s : List ℕ) (gs : List Form) (r : Scan) → [] ≡ single_at b lead → gs ≡ group_at b lead → r ≡ scan_forms gs m b s → r ≡ scan_forms (forms_at b (rows_behind lead)) m b s
-group_forms lead m b s gs r e g h = by_test (is_group b lead) e g
-  where
-    by_test : (v : Bool) → [] ≡ (elim v as (λ _. List Form) [ true ↦ [] | false ↦ forms_at b (rows_behind lead) ]) → gs ≡ (elim v as (λ _. List Form) [ true ↦ forms_at b (rows_behind lead) | false ↦ [] ]) → r ≡ scan_forms (forms_at b (rows_behind lead)) m b s
-    by_test true p q = h ∙ ap (λ (fs : List Form). scan_forms fs m b s) q
-    by_test false p q = h ∙ ap (λ (fs : List Form). scan_forms fs m b s) (q ∙ p)
 
 -- ---- bytes by their first
 

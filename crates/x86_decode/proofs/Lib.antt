@@ -4,3 +4,4 @@ pub mod Lacking
 pub mod Among
 pub mod Behind
 pub mod Whole
+pub mod Choosing

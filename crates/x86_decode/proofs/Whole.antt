@@ -1,8 +1,9 @@
 -- The scan of whole bytes, by their prefixes and what follows them; and what decoding makes of it.
-use Rattle.std.proofs.Common.{◌≡◌, ℕ, zero, suc, ◌≤◌, min, Bool, true, false, List, [], ◌∷◌, ◌++◌, length, take, drop, Option, Some, None, refl, sym, ◌∙◌, ap, ap₂, inl, inr, arith, take_all, length-append, length-take, take-append-drop, rules}
+use Rattle.std.proofs.Common.{◌≡◌, ℕ, zero, suc, ◌≤◌, min, Bool, true, false, List, [], ◌∷◌, ◌++◌, length, take, drop, Option, Some, None, refl, sym, subst, ◌∙◌, ap, ap₂, inl, inr, arith, take_all, length-append, length-take, take-append-drop, rules}
 use Rattle.std.specs.Prelude.{IsSome}
 use Rattle.std.proofs.Math.Seq.{take-append_seam}
 use Rattle.std.proofs.lemmas.Bool.{cases_lt}
+use Rattle.std.proofs.lemmas.Bool.Decides.{leb_tells}
 use Rattle.mv_base.specs.Bytes.{AreBytes}
 use Rattle.x86_insn.specs.declared.insn.Insn.{Insn}
 use Rattle.x86_insn.specs.declared.row.Marks.{Marks}
@@ -13,7 +14,9 @@ use Rattle.x86_insn.specs.Scanning.{Scan, Found, More, Nothing, later, scan, sca
 use Rattle.x86_insn.specs.PrefixScan.{split}
 use Rattle.x86_insn.specs.Laws.{bytes_tested, decoded_take, scan_found, scan_more, scan_exceeds, Exceeds, IsLong, long_none, long_ends, limited_of}
 use Rattle.x86_decode.specs.Candidates.{rows_behind, scan_rest}
+use Rattle.x86_decode.specs.Reading.{decided}
 use Rattle.x86_decode.specs.Decoding.{IsDecoded, BeginsSpelling}
+use Rattle.x86_decode.specs.declared.decoding.Decoded.{Decoded}
 use Rattle.x86_decode.specs.declared.decoding.Decoded.TheVariants as decoded_as
 use Rattle.x86_decode.proofs.Behind.{rest_of_table}
 
@@ -95,3 +98,22 @@ unknown_is b k r q e x =
         let v = limited_of (b ++ w.0) s.0 s.1 in
         let whole : take 15 b ≡ b = take_all 15 b (omega (arith, v.limit, length-append b w.0)) in
         long_ends (take 15 b) w.0 s.0 long (ap (λ (t : List ℕ). spelled (t ++ w.0)) whole ∙ s.1)
+
+-- ---- the same by what stands behind the prefixes
+
+pub decided_is : (b : List ℕ) (k : ℕ) (r : Scan) → AreBytes b → k ≡ min (length b) 15 → r ≡ scan (take k b) → IsDecoded b (decided r)
+decided_is b k (Found i n) h q e =
+    elim (leb_tells n 15) [
+      | inl w ↦ subst (λ (v : Bool). IsDecoded b (elim v as (λ _. Decoded) [ true ↦ decoded_as.Insn i n | false ↦ decoded_as.Unknown ])) (sym w.0) (found_is b k i n h q e w.1)
+      | inr w ↦ subst (λ (v : Bool). IsDecoded b (elim v as (λ _. Decoded) [ true ↦ decoded_as.Insn i n | false ↦ decoded_as.Unknown ])) (sym w.0) (unknown_is b k (Found i n) q e w.1)
+    ]
+decided_is b k (More n) h q e =
+    elim (leb_tells n 15) [
+      | inl w ↦ subst (λ (v : Bool). IsDecoded b (elim v as (λ _. Decoded) [ true ↦ decoded_as.Short | false ↦ decoded_as.Unknown ])) (sym w.0) (more_is b k n h q e w.1)
+      | inr w ↦ subst (λ (v : Bool). IsDecoded b (elim v as (λ _. Decoded) [ true ↦ decoded_as.Short | false ↦ decoded_as.Unknown ])) (sym w.0) (unknown_is b k (More n) q e w.1)
+    ]
+decided_is b k Nothing h q e = unknown_is b k Nothing q e tt
+
+-- the facts that the prefixes of the first fifteen bytes are split off with, and what the rest comes to
+pub behind_prefixes : (b : List ℕ) (n : ℕ) (p q : List ℕ) (m : Marks) (t : Bool) → n ≡ length (front b) → p ≡ take n b → q ≡ drop n b → t ≡ may_stand_together p → t ≡ true → m ≡ marks_of p → later n (scan_rest (rows_behind []) m q) ≡ scan b
+behind_prefixes b n p q m t en ep eq et holds em = scan_with b n p q m _ _ t en ep eq et holds em refl refl

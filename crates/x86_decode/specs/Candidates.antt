@@ -4,8 +4,9 @@ use Rattle.x86_insn.specs.declared.row.Form.{Form}
 use Rattle.x86_insn.specs.declared.row.Row.{Row}
 use Rattle.x86_insn.specs.declared.row.Marks.{Marks}
 use Rattle.x86_insn.specs.Prefixes.{is_among}
+use Rattle.x86_insn.specs.Addressing.{reg_field}
 use Rattle.x86_insn.specs.Rows.{rows}
-use Rattle.x86_insn.specs.Spelling.{lead_bytes, is_opcode}
+use Rattle.x86_insn.specs.Spelling.{lead_bytes, is_opcode, takes_digit, from_modrm}
 use Rattle.x86_insn.specs.Scanning.{Scan, Nothing, best, scan_operands, scan_opcode, scan_lead}
 
 -- rows with the lead bytes that are still to come
@@ -46,6 +47,11 @@ forms_at b (r ∷ rs) = keep_form b r.0 r.1 (forms_at b rs)
 abbrev pub scan_rest : Rest → Marks → List ℕ → Scan
 scan_rest [] m s = Nothing
 scan_rest (r ∷ rs) m s = best (scan_lead r.0 (scan_opcode r.1 m) s) (scan_rest rs m s)
+
+-- ModRM's reg field lets a form be the one that is meant; so it does where no byte is there
+abbrev pub may_take : Form → List ℕ → Bool
+may_take f [] = true
+may_take f (b ∷ s) = takes_digit f.digit (reg_field (from_modrm f (b ∷ s)))
 
 abbrev pub scan_forms : List Form → Marks → ℕ → List ℕ → Scan
 scan_forms [] m opcode s = Nothing

@@ -1,3 +1,4 @@
 pub mod Candidates
 pub mod Reading
+pub mod Choice
 pub mod Decoding

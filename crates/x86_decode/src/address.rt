@@ -168,6 +168,7 @@ fn factor(scale: u8) -> u8
     }
 }
 
+#[inline(always)]
 fn memory(bytes: &[u8]) -> Mem
     ensures { result ≡ memory_of bytes.now }
 {
@@ -188,6 +189,7 @@ fn memory(bytes: &[u8]) -> Mem
 }
 
 /// The operand: a register or memory.
+#[inline(always)]
 pub fn operand(bytes: &[u8]) -> Rm
     ensures { result ≡ rm_of bytes.now }
 {

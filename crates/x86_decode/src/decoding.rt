@@ -1,14 +1,16 @@
 //! Decoding: the instruction that the first bytes of a list spell. Intel SDM, volume 2.
 
 ghost use Rattle.std.specs.Prelude.{◌≡◌, ◌≤◌, ◌<◌, ◌+◌, [], ◌∷◌, length};
-ghost use Rattle.x86_insn.specs.Scanning.{scan, scan_rows};
+ghost use Rattle.x86_insn.specs.Scanning.{later};
 ghost use Rattle.x86_insn.specs.Rows.{rows};
 ghost use Rattle.x86_decode.specs.Candidates.{rows_behind, forms_at, scan_rest, scan_forms};
-ghost use Rattle.x86_decode.specs.Reading.{scan_of, len_of};
+ghost use Rattle.x86_decode.specs.Reading.{scan_of, len_of, decided};
 ghost use Rattle.x86_decode.specs.Decoding.{IsDecoded};
 
-use crate::form::{scan_forms, scan_operands};
-use crate::opcode_map::{hint, interrupt, one_byte, one_byte_group, two_byte, two_byte_group};
+use crate::choice::{Choice, choose};
+use crate::form::{operands_of, scan_forms, scan_operands};
+use crate::meaning::meaning;
+use crate::opcode_map::{hint, interrupt, one_byte, two_byte};
 use crate::prefixes::{marks_of, may_stand_together, prefix_count};
 use crate::reading::Reading;
 use x86_insn::row::Marks;
@@ -30,31 +32,45 @@ pub enum Decoded {
 
 /// The instruction that a front of the bytes spells, with the front's length. It looks at no more than 15 bytes and
 /// takes no memory.
+#[inline(always)]
 pub fn decode(bytes: &[u8]) -> Decoded
     ensures { IsDecoded bytes.now result }
 {
     let seen = &bytes[..bytes.len().min(LIMIT)];
-    match scan(seen) {
+    let count = prefix_count(seen);
+    let (prefixes, body) = seen.split_at(count);
+    if !may_stand_together(prefixes) {
+        return Decoded::Unknown;
+    }
+    let marks = marks_of(prefixes);
+    match choose(body, &marks) {
+        Choice::By {
+            form,
+            opcode,
+            operands,
+            len,
+        } if len <= LIMIT - count => Decoded::Insn {
+            insn: meaning(form.kind, &operands_of(form, marks, opcode, operands)),
+            len: (count + len) as u8,
+        },
+        Choice::Nowhere => Decoded::Unknown,
+        _ => decode_openly(body, marks, count),
+    }
+}
+
+// The same where nothing is chosen, by all forms, behind `count` bytes of prefixes.
+#[cold]
+fn decode_openly(body: &[u8], marks: Marks, count: usize) -> Decoded
+    requires { count ≤ 15 }
+    ensures { result ≡ decided (later count (scan_rest (rows_behind []) marks body.now)) }
+{
+    match scan_body(body, marks).later(count) {
         Reading::Found { insn, len } if len <= LIMIT => Decoded::Insn {
             insn,
             len: len as u8,
         },
         Reading::More { len } if len <= LIMIT => Decoded::Short,
         _ => Decoded::Unknown,
-    }
-}
-
-// What bytes come to, without the limit.
-fn scan(bytes: &[u8]) -> Reading
-    requires { length bytes.now ≤ 15 }
-    ensures { scan_of result ≡ scan bytes.now }
-{
-    let count = prefix_count(bytes);
-    let (prefixes, body) = bytes.split_at(count);
-    if may_stand_together(prefixes) {
-        scan_body(body, marks_of(prefixes)).later(count)
-    } else {
-        Reading::Nothing
     }
 }
 
@@ -117,10 +133,7 @@ fn scan_one_byte(opcode: u8, bytes: &[u8], marks: Marks) -> Reading
         bytes.now }
     ensures len { len_of (scan_of result) ≤ 10 }
 {
-    match one_byte(opcode) {
-        Some(form) => scan_operands(&form, marks, opcode, bytes),
-        None => scan_forms(one_byte_group(opcode), marks, opcode, bytes),
-    }
+    scan_forms(one_byte(opcode), marks, opcode, bytes)
 }
 
 // What operand bytes come to behind an opcode behind 0F.
@@ -129,10 +142,7 @@ fn scan_two_byte(opcode: u8, bytes: &[u8], marks: Marks) -> Reading
         opcode bytes.now }
     ensures len { len_of (scan_of result) ≤ 10 }
 {
-    match two_byte(opcode) {
-        Some(form) => scan_operands(&form, marks, opcode, bytes),
-        None => scan_forms(two_byte_group(opcode), marks, opcode, bytes),
-    }
+    scan_forms(two_byte(opcode), marks, opcode, bytes)
 }
 
 // No byte is there behind the prefixes. LOCK asks for a ModRM byte.

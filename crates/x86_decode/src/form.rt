@@ -15,7 +15,7 @@ use crate::reading::Reading;
 use x86_insn::Width;
 use x86_insn::row::{Form, Immediate, Layout, Marks, Operands};
 
-fn takes_digit(digit: Option<u8>, field: u8) -> bool
+pub fn takes_digit(digit: Option<u8>, field: u8) -> bool
     ensures { result ≡ takes_digit digit field }
 {
     match digit {
@@ -75,7 +75,7 @@ fn immediate_of(immediate: Immediate, width: Width, bytes: &[u8], place: usize) 
 }
 
 // The bytes from ModRM on, of operand bytes; none where there is no ModRM byte.
-fn from_modrm<'a>(form: &Form, bytes: &'a [u8]) -> &'a [u8]
+pub fn from_modrm<'a>(form: &Form, bytes: &'a [u8]) -> &'a [u8]
     ensures { result.now ≡ from_modrm form.now bytes.now }
 {
     if form.layout.has_modrm() { bytes } else { &[] }
@@ -93,7 +93,8 @@ fn immediate_place(form: &Form, bytes: &[u8]) -> usize
     }
 }
 
-fn operand_length(form: &Form, marks: Marks, bytes: &[u8]) -> usize
+#[inline(always)]
+pub fn operand_length(form: &Form, marks: Marks, bytes: &[u8]) -> usize
     ensures is { result ≡ operand_length form.now marks bytes.now }
     ensures at_most { result ≤ 10 }
 {
@@ -101,7 +102,8 @@ fn operand_length(form: &Form, marks: Marks, bytes: &[u8]) -> usize
 }
 
 // ModRM is one of the form's; F0 asks for memory.
-fn takes_modrm(form: &Form, marks: Marks, bytes: &[u8]) -> bool
+#[inline(always)]
+pub fn takes_modrm(form: &Form, marks: Marks, bytes: &[u8]) -> bool
     ensures { result ≡ takes_modrm form.now marks bytes.now }
 {
     let modrm = from_modrm(form, bytes);
@@ -110,7 +112,8 @@ fn takes_modrm(form: &Form, marks: Marks, bytes: &[u8]) -> bool
         && (!marks.lock || names_memory(modrm))
 }
 
-fn operands_of(form: &Form, marks: Marks, opcode: u8, bytes: &[u8]) -> Operands
+#[inline(always)]
+pub fn operands_of(form: &Form, marks: Marks, opcode: u8, bytes: &[u8]) -> Operands
     ensures { result ≡ operands_of form.now marks opcode bytes.now }
 {
     let modrm = from_modrm(form, bytes);
@@ -139,7 +142,7 @@ fn seed(form: &Form) -> u8
     }
 }
 
-/// What operand bytes come to by a form.
+// What operand bytes come to by a form.
 pub fn scan_operands(form: &Form, marks: Marks, opcode: u8, bytes: &[u8]) -> Reading
     ensures is { scan_of result ≡ scan_operands form.now marks opcode bytes.now }
     ensures len { len_of (scan_of result) ≤ 10 }

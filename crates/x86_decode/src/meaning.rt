@@ -63,6 +63,7 @@ fn memory_in(operand: Rm) -> Mem
 }
 
 /// The instruction of a kind and its operands.
+#[inline(always)]
 pub fn meaning(kind: Kind, o: &Operands) -> Insn
     ensures { result ≡ meaning kind o.now }
 {

@@ -3,9 +3,10 @@
 //! A line of a map has eight opcodes. Where several forms share an opcode, ModRM's reg field or the prefix F3
 //! tells them apart.
 
-ghost use Rattle.std.specs.Prelude.{◌≡◌, ◌<◌, ◌≤◌, [], ◌∷◌, option_to_list};
+ghost use Rattle.std.specs.Prelude.{◌≡◌, [], ◌∷◌, option_to_list};
 ghost use Rattle.x86_decode.specs.Candidates.{rows_behind, forms_at, single_at, group_at};
 
+use std::slice;
 use x86_insn::row::{Form, Immediate, Kind, Layout, Repeat, Size};
 use x86_insn::{AluOp, BitOp, FlagOp, LoopKind, ShiftOp, StrOp, UnOp, Width};
 
@@ -326,9 +327,9 @@ const HLT: Option<Form> = Some(plain!(Kind::Hlt, Absent, Dword));
 
 const UD2: Option<Form> = Some(plain!(Kind::Ud2, Absent, Dword));
 
-// The one-byte opcodes that have one form, 00 to 3F.
+// The one-byte opcodes that have one form.
 #[rattlefmt::skip]
-static ONE_BYTE_00: [Option<Form>; 64] = [
+static ONE_BYTE: [Option<Form>; 256] = [
     /* 0x00 */ rm_reg!(Add, Byte, true), rm_reg!(Add, Vary, true), reg_rm!(Add, Byte), reg_rm!(Add, Vary), acc!(Add, Ib, Byte), acc!(Add, Iz, Vary), NONE, NONE,
     /* 0x08 */ rm_reg!(Or, Byte, true), rm_reg!(Or, Vary, true), reg_rm!(Or, Byte), reg_rm!(Or, Vary), acc!(Or, Ib, Byte), acc!(Or, Iz, Vary), NONE, NONE,
     /* 0x10 */ rm_reg!(Adc, Byte, true), rm_reg!(Adc, Vary, true), reg_rm!(Adc, Byte), reg_rm!(Adc, Vary), acc!(Adc, Ib, Byte), acc!(Adc, Iz, Vary), NONE, NONE,
@@ -337,11 +338,6 @@ static ONE_BYTE_00: [Option<Form>; 64] = [
     /* 0x28 */ rm_reg!(Sub, Byte, true), rm_reg!(Sub, Vary, true), reg_rm!(Sub, Byte), reg_rm!(Sub, Vary), acc!(Sub, Ib, Byte), acc!(Sub, Iz, Vary), NONE, NONE,
     /* 0x30 */ rm_reg!(Xor, Byte, true), rm_reg!(Xor, Vary, true), reg_rm!(Xor, Byte), reg_rm!(Xor, Vary), acc!(Xor, Ib, Byte), acc!(Xor, Iz, Vary), NONE, NONE,
     /* 0x38 */ rm_reg!(Cmp, Byte, false), rm_reg!(Cmp, Vary, false), reg_rm!(Cmp, Byte), reg_rm!(Cmp, Vary), acc!(Cmp, Ib, Byte), acc!(Cmp, Iz, Vary), NONE, NONE,
-];
-
-// The one-byte opcodes that have one form, 40 to 7F.
-#[rattlefmt::skip]
-static ONE_BYTE_40: [Option<Form>; 64] = [
     /* 0x40 */ INC, INC, INC, INC, INC, INC, INC, INC,
     /* 0x48 */ DEC, DEC, DEC, DEC, DEC, DEC, DEC, DEC,
     /* 0x50 */ PUSH, PUSH, PUSH, PUSH, PUSH, PUSH, PUSH, PUSH,
@@ -350,11 +346,6 @@ static ONE_BYTE_40: [Option<Form>; 64] = [
     /* 0x68 */ PUSH_ID, IMUL_IZ, PUSH_IB, IMUL_IB, NONE, NONE, NONE, NONE,
     /* 0x70 */ JCC, JCC, JCC, JCC, JCC, JCC, JCC, JCC,
     /* 0x78 */ JCC, JCC, JCC, JCC, JCC, JCC, JCC, JCC,
-];
-
-// The one-byte opcodes that have one form, 80 to BF.
-#[rattlefmt::skip]
-static ONE_BYTE_80: [Option<Form>; 64] = [
     /* 0x80 */ NONE, NONE, NONE, NONE, TEST_8, TEST, XCHG_8, XCHG,
     /* 0x88 */ STORE_8, STORE, LOAD_8, LOAD, NONE, LEA, NONE, POP_RM,
     /* 0x90 */ NONE, XCHG_ACC, XCHG_ACC, XCHG_ACC, XCHG_ACC, XCHG_ACC, XCHG_ACC, XCHG_ACC,
@@ -363,11 +354,6 @@ static ONE_BYTE_80: [Option<Form>; 64] = [
     /* 0xA8 */ TEST_AL, TEST_ACC, string!(Stos, Byte, Rep), string!(Stos, Vary, Rep), string!(Lods, Byte, Rep), string!(Lods, Vary, Rep), string!(Scas, Byte, Repe), string!(Scas, Vary, Repe),
     /* 0xB0 */ SET_8, SET_8, SET_8, SET_8, SET_8, SET_8, SET_8, SET_8,
     /* 0xB8 */ SET, SET, SET, SET, SET, SET, SET, SET,
-];
-
-// The one-byte opcodes that have one form, C0 to FF.
-#[rattlefmt::skip]
-static ONE_BYTE_C0: [Option<Form>; 64] = [
     /* 0xC0 */ NONE, NONE, RET_IW, RET, NONE, NONE, MOV_C6, MOV_C7,
     /* 0xC8 */ NONE, LEAVE, NONE, NONE, INT3, NONE, NONE, NONE,
     /* 0xD0 */ NONE, NONE, NONE, NONE, NONE, NONE, NONE, XLAT,
@@ -378,9 +364,9 @@ static ONE_BYTE_C0: [Option<Form>; 64] = [
     /* 0xF8 */ flag!(Clc), flag!(Stc), NONE, NONE, flag!(Cld), flag!(Std), NONE, NONE,
 ];
 
-// The opcodes behind 0F that have one form, 00 to 3F.
+// The opcodes behind 0F that have one form.
 #[rattlefmt::skip]
-static TWO_BYTE_00: [Option<Form>; 64] = [
+static TWO_BYTE: [Option<Form>; 256] = [
     /* 0x00 */ NONE, NONE, NONE, NONE, NONE, NONE, NONE, NONE,
     /* 0x08 */ NONE, NONE, NONE, UD2, NONE, NONE, NONE, NONE,
     /* 0x10 */ NONE, NONE, NONE, NONE, NONE, NONE, NONE, NONE,
@@ -389,11 +375,6 @@ static TWO_BYTE_00: [Option<Form>; 64] = [
     /* 0x28 */ NONE, NONE, NONE, NONE, NONE, NONE, NONE, NONE,
     /* 0x30 */ NONE, NONE, NONE, NONE, NONE, NONE, NONE, NONE,
     /* 0x38 */ NONE, NONE, NONE, NONE, NONE, NONE, NONE, NONE,
-];
-
-// The opcodes behind 0F that have one form, 40 to 7F.
-#[rattlefmt::skip]
-static TWO_BYTE_40: [Option<Form>; 64] = [
     /* 0x40 */ CMOV, CMOV, CMOV, CMOV, CMOV, CMOV, CMOV, CMOV,
     /* 0x48 */ CMOV, CMOV, CMOV, CMOV, CMOV, CMOV, CMOV, CMOV,
     /* 0x50 */ NONE, NONE, NONE, NONE, NONE, NONE, NONE, NONE,
@@ -402,11 +383,6 @@ static TWO_BYTE_40: [Option<Form>; 64] = [
     /* 0x68 */ NONE, NONE, NONE, NONE, NONE, NONE, NONE, NONE,
     /* 0x70 */ NONE, NONE, NONE, NONE, NONE, NONE, NONE, NONE,
     /* 0x78 */ NONE, NONE, NONE, NONE, NONE, NONE, NONE, NONE,
-];
-
-// The opcodes behind 0F that have one form, 80 to BF.
-#[rattlefmt::skip]
-static TWO_BYTE_80: [Option<Form>; 64] = [
     /* 0x80 */ JCC_ID, JCC_ID, JCC_ID, JCC_ID, JCC_ID, JCC_ID, JCC_ID, JCC_ID,
     /* 0x88 */ JCC_ID, JCC_ID, JCC_ID, JCC_ID, JCC_ID, JCC_ID, JCC_ID, JCC_ID,
     /* 0x90 */ SETCC, SETCC, SETCC, SETCC, SETCC, SETCC, SETCC, SETCC,
@@ -415,11 +391,6 @@ static TWO_BYTE_80: [Option<Form>; 64] = [
     /* 0xA8 */ NONE, NONE, NONE, bit!(Bts), SHRD_IB, SHRD_CL, NONE, IMUL,
     /* 0xB0 */ CMPXCHG_8, CMPXCHG, NONE, bit!(Btr), NONE, NONE, MOVZX_8, MOVZX_16,
     /* 0xB8 */ NONE, NONE, NONE, bit!(Btc), BSF, BSR, MOVSX_8, MOVSX_16,
-];
-
-// The opcodes behind 0F that have one form, C0 to FF.
-#[rattlefmt::skip]
-static TWO_BYTE_C0: [Option<Form>; 64] = [
     /* 0xC0 */ XADD_8, XADD, NONE, NONE, NONE, NONE, NONE, NONE,
     /* 0xC8 */ BSWAP, BSWAP, BSWAP, BSWAP, BSWAP, BSWAP, BSWAP, BSWAP,
     /* 0xD0 */ NONE, NONE, NONE, NONE, NONE, NONE, NONE, NONE,
@@ -430,50 +401,25 @@ static TWO_BYTE_C0: [Option<Form>; 64] = [
     /* 0xF8 */ NONE, NONE, NONE, NONE, NONE, NONE, NONE, NONE,
 ];
 
-/// The form at a one-byte opcode that has one.
-pub fn one_byte(opcode: u8) -> Option<Form>
-    ensures { option_to_list result ≡ single_at opcode [] }
+/// The forms at a one-byte opcode.
+pub fn one_byte(opcode: u8) -> &'static [Form]
+    ensures { result.now ≡ forms_at opcode (rows_behind []) }
 {
-    match opcode / 0x40 {
-        0 => one_byte_00(opcode),
-        1 => one_byte_40(opcode),
-        2 => one_byte_80(opcode),
-        _ => one_byte_c0(opcode),
+    match one_byte_single(opcode) {
+        Some(form) => slice::from_ref(form),
+        None => one_byte_group(opcode),
     }
 }
 
-fn one_byte_00(opcode: u8) -> Option<Form>
-    requires { opcode < 0x40 }
-    ensures { option_to_list result ≡ single_at opcode [] }
+// The form at a one-byte opcode that has one.
+fn one_byte_single(opcode: u8) -> &'static Option<Form>
+    ensures { option_to_list result.now ≡ single_at opcode [] }
 {
-    ONE_BYTE_00[opcode as usize]
+    &ONE_BYTE[opcode as usize]
 }
 
-fn one_byte_40(opcode: u8) -> Option<Form>
-    requires low { 0x40 ≤ opcode }
-    requires high { opcode < 0x80 }
-    ensures { option_to_list result ≡ single_at opcode [] }
-{
-    ONE_BYTE_40[(opcode - 0x40) as usize]
-}
-
-fn one_byte_80(opcode: u8) -> Option<Form>
-    requires low { 0x80 ≤ opcode }
-    requires high { opcode < 0xc0 }
-    ensures { option_to_list result ≡ single_at opcode [] }
-{
-    ONE_BYTE_80[(opcode - 0x80) as usize]
-}
-
-fn one_byte_c0(opcode: u8) -> Option<Form>
-    requires { 0xC0 ≤ opcode }
-    ensures { option_to_list result ≡ single_at opcode [] }
-{
-    ONE_BYTE_C0[(opcode - 0xC0) as usize]
-}
-
-/// The forms at a one-byte opcode that has several.
-pub fn one_byte_group(opcode: u8) -> &'static [Form]
+// The forms at a one-byte opcode that has several.
+fn one_byte_group(opcode: u8) -> &'static [Form]
     ensures { result.now ≡ group_at opcode [] }
 {
     match opcode {
@@ -495,50 +441,25 @@ pub fn one_byte_group(opcode: u8) -> &'static [Form]
     }
 }
 
-/// The form at an opcode behind 0F that has one.
-pub fn two_byte(opcode: u8) -> Option<Form>
-    ensures { option_to_list result ≡ single_at opcode (0x0F ∷ []) }
+/// The forms at an opcode behind 0F.
+pub fn two_byte(opcode: u8) -> &'static [Form]
+    ensures { result.now ≡ forms_at opcode (rows_behind (0x0F ∷ [])) }
 {
-    match opcode / 0x40 {
-        0 => two_byte_00(opcode),
-        1 => two_byte_40(opcode),
-        2 => two_byte_80(opcode),
-        _ => two_byte_c0(opcode),
+    match two_byte_single(opcode) {
+        Some(form) => slice::from_ref(form),
+        None => two_byte_group(opcode),
     }
 }
 
-fn two_byte_00(opcode: u8) -> Option<Form>
-    requires { opcode < 0x40 }
-    ensures { option_to_list result ≡ single_at opcode (0x0F ∷ []) }
+// The form at an opcode behind 0F that has one.
+fn two_byte_single(opcode: u8) -> &'static Option<Form>
+    ensures { option_to_list result.now ≡ single_at opcode (0x0F ∷ []) }
 {
-    TWO_BYTE_00[opcode as usize]
+    &TWO_BYTE[opcode as usize]
 }
 
-fn two_byte_40(opcode: u8) -> Option<Form>
-    requires low { 0x40 ≤ opcode }
-    requires high { opcode < 0x80 }
-    ensures { option_to_list result ≡ single_at opcode (0x0F ∷ []) }
-{
-    TWO_BYTE_40[(opcode - 0x40) as usize]
-}
-
-fn two_byte_80(opcode: u8) -> Option<Form>
-    requires low { 0x80 ≤ opcode }
-    requires high { opcode < 0xc0 }
-    ensures { option_to_list result ≡ single_at opcode (0x0F ∷ []) }
-{
-    TWO_BYTE_80[(opcode - 0x80) as usize]
-}
-
-fn two_byte_c0(opcode: u8) -> Option<Form>
-    requires { 0xC0 ≤ opcode }
-    ensures { option_to_list result ≡ single_at opcode (0x0F ∷ []) }
-{
-    TWO_BYTE_C0[(opcode - 0xC0) as usize]
-}
-
-/// The forms at an opcode behind 0F that has several.
-pub fn two_byte_group(opcode: u8) -> &'static [Form]
+// The forms at an opcode behind 0F that has several.
+fn two_byte_group(opcode: u8) -> &'static [Form]
     ensures { result.now ≡ group_at opcode (0x0F ∷ []) }
 {
     match opcode {
