@@ -1,19 +1,20 @@
 -- What an output is to its input before anything runs: how it loads, and what stands where. This project's own.
-use Rattle.std.specs.Prelude.{◌≡◌, ℕ, ◌+◌, ◌^◌, ◌<◌, ◌≤◌, ◌⊎◌, true, false, List, length, Option, Some, None, slice_index}
-use Rattle.std.specs.List.{AllByRecursion}
+use Rattle.std.specs.Prelude.{◌≡◌, ℕ, ◌+◌, ◌^◌, ◌<◌, ◌≤◌, ◌⊎◌, true, false, List, length, map, Option, Some, None, slice_index}
+use Rattle.std.specs.List.{AllByRecursion, range_with_len}
 use Rattle.std.specs.Option.{option_map}
 use Rattle.mv_base.specs.Bytes.{AreBytes}
-use Rattle.mv_base.specs.Memory.{Cell, exec_byte, is_writable, is_executable}
+use Rattle.mv_base.specs.Memory.{Cell, byte_of, exec_byte, is_writable, is_executable}
 use Rattle.elf32_read.specs.Fields.{entry_at}
 use Rattle.elf32_read.specs.Faults.{load_refusal}
 use Rattle.elf32_read.specs.Load.{load}
-use Rattle.elf32_write.specs.Frame.{Frame, frame, frame_table, frame_code, frame_map, is_added, is_private}
+use Rattle.elf32_write.specs.Frame.{Frame, frame, frame_table, frame_code, frame_map, is_added, is_private, counted_at}
 use Rattle.lookup_stub.specs.Stub.{stub}
 use Rattle.lookup_stub.specs.Finding.{IsPlaced}
+use Rattle.counter_hooks.specs.Rules.{Ascend}
 use Rattle.superset.specs.declared.site.Site.{Site}
 use Rattle.simulation_laws.specs.declared.anchors.Anchors.{Anchors}
 use Rattle.simulation_laws.specs.Code.{site_at, code_in}
-use Rattle.simulation_laws.specs.Pieces.{piece, successor}
+use Rattle.simulation_laws.specs.Pieces.{piece, successor, counter_in, counter_code}
 use Rattle.step_laws.specs.Jumps.{jump_bytes}
 use Rattle.x86_insn.specs.Flow.{flow_of, falls}
 
@@ -35,19 +36,34 @@ pub record StandAt (x : List ℕ) (f : Frame) (at : ℕ) (bytes : List ℕ) : Ty
 abbrev pub anchors_of : Frame → Anchors
 anchors_of f = record { stub = f.code.lo; private = f.private }
 
--- the piece of a site, to stand where the frame maps the site
+-- the addresses that a frame counts, in its list's order, and where the counter of an address is
+abbrev pub counted : Frame → List ℕ
+counted f = map (counted_at f) (range_with_len 0 f.counters)
+
+abbrev pub counter_of : Frame → ℕ → Option ℕ
+counter_of f a = counter_in f.first_counter (counted f) a
+
+-- the counter of a site, if it has one, to stand where the frame maps the site
+abbrev pub counter_there : Frame → Site → List ℕ
+counter_there f s = counter_code (anchors_of f) (counter_of f s.at)
+
+-- and behind it the site's piece
+abbrev pub piece_place : Frame → Site → ℕ
+piece_place f s = frame_map f s.at + length (counter_there f s)
+
 abbrev pub piece_there : List ℕ → Frame → Site → List ℕ
-piece_there b f s = piece (anchors_of f) (frame_map f) (code_in b) (frame_map f s.at) s
+piece_there b f s = piece (anchors_of f) (frame_map f) (code_in b) (piece_place f s) s
 
 -- a place behind the piece of a site: where the instruction may go on, it is the successor's entry, or a join leads there
 abbrev pub LeadsOn : List ℕ → Frame → ℕ → Site → Type 0
 LeadsOn x f here s =
     falls (flow_of s.insn) ≡ true → (frame_map f (successor s) ≡ here) ⊎ StandAt x f here (jump_bytes here (frame_map f (successor s)))
 
--- where the frame maps a site its piece stands, and behind it what leads on
+-- where the frame maps a site its counter stands, if it has one, then its piece, and behind it what leads on
 pub record PieceAt (b x : List ℕ) (f : Frame) (s : Site) : Type 0 where
-  pub stands : StandAt x f (frame_map f s.at) (piece_there b f s)
-  pub leads : LeadsOn x f (frame_map f s.at + length (piece_there b f s)) s
+  pub counts : StandAt x f (frame_map f s.at) (counter_there f s)
+  pub stands : StandAt x f (piece_place f s) (piece_there b f s)
+  pub leads : LeadsOn x f (piece_place f s + length (piece_there b f s)) s
 
 -- an output loads as an image with a frame over its input: its block's parts, and around them the input's memory
 pub record IsOutput (b x : List ℕ) (f : Frame) : Type 0 where
@@ -55,17 +71,17 @@ pub record IsOutput (b x : List ℕ) (f : Frame) : Type 0 where
   pub admitted : load_refusal x ≡ None
   pub framed : frame x ≡ Some f
   pub low : f.added.lo + f.added.len ≤ 0xB0000000
-  -- the input's file is bytes
+  -- the files are bytes
   pub bytes : AreBytes b
-  -- no site is counted
-  pub uncounted : f.counters ≡ 0
+  pub bytes_there : AreBytes x
   -- outside the added range: the input's memory without execute marks, and the input maps nothing in it
   pub outside : (a : ℕ) → is_added f a ≡ false → load x a ≡ without_exec (load b a)
   pub free : (a : ℕ) → is_added f a ≡ true → load b a ≡ None
-  -- in the added range the private area may be written, nothing else may, and the private area is not executable
+  -- in the added range the private area and the counters may be written, nothing else may, and they are 0 and not executable
   pub scratch : (a : ℕ) → is_private f a ≡ true → (is_added f a ≡ true) × (is_writable (load x) a ≡ true)
   pub fixed : (a : ℕ) → is_added f a ≡ true → is_private f a ≡ false → is_writable (load x) a ≡ false
   pub idle : (a : ℕ) → is_private f a ≡ true → is_executable (load x) a ≡ false
+  pub zeros : (a : ℕ) → is_private f a ≡ true → byte_of (load x a) ≡ 0
   -- the code begins with the stub of the frame's form and runs
   pub stub : StandAt x f f.code.lo (stub f.form f.runs f.private)
   -- the table's bytes can be read at their addresses, which are added and not private
@@ -82,10 +98,11 @@ pub record IsOutput (b x : List ℕ) (f : Frame) : Type 0 where
   -- addresses are mapped to addresses
   pub mapped : (a : ℕ) → a < 2 ^ 32 → frame_map f a < 2 ^ 32
 
--- and it starts where the input's entry is mapped, has each site's piece where the site is mapped, and maps any other
--- address to itself
+-- and it starts where the input's entry is mapped, counts each address once, has each site's piece where the site is mapped,
+-- and maps any other address to itself
 pub record IsRelocated (b x : List ℕ) (f : Frame) : Type 0 where
   pub output : IsOutput b x f
   pub entry : entry_at x ≡ frame_map f (entry_at b)
+  pub ascends : Ascend (counted f)
   pub pieces : (a : ℕ) (s : Site) → site_at (code_in b) a ≡ Some s → PieceAt b x f s
   pub others : (a : ℕ) → site_at (code_in b) a ≡ None → frame_map f a ≡ a

@@ -10,7 +10,7 @@ use Rattle.superset.specs.Targets.{successor}
 use Rattle.simulation_laws.specs.Code.{code_in}
 use Rattle.simulation_laws.specs.Front.{begins}
 use Rattle.simulation_laws.specs.Pieces.{piece}
-use Rattle.simulation_laws.specs.Relocated.{anchors_of}
+use Rattle.simulation_laws.specs.Relocated.{anchors_of, counter_there, piece_place}
 
 -- the frame's code has these bytes from an address on, whole and below 2^32
 abbrev pub has_bytes : Frame → ℕ → List ℕ → Bool
@@ -25,14 +25,16 @@ abbrev pub has_way : Frame → ℕ → Site → Bool
 has_way f here s =
     not (falls (flow_of s.insn)) || frame_map f (successor s) == here || has_bytes f here (jump_bytes here (frame_map f (successor s)))
 
--- the piece of a site over these executable bytes, where the frame maps the site
+-- the piece of a site over these executable bytes, behind the site's counter
 abbrev pub piece_over : Frame → (ℕ → Option ℕ) → Site → List ℕ
-piece_over f code s = piece (anchors_of f) (frame_map f) code (frame_map f s.at) s
+piece_over f code s = piece (anchors_of f) (frame_map f) code (piece_place f s) s
 
--- it stands there, and leads on
+-- where the frame maps the site its counter stands, if it has one, then its piece, and leads on
 abbrev pub has_piece : Frame → (ℕ → Option ℕ) → Site → Bool
 has_piece f code s =
-    has_bytes f (frame_map f s.at) (piece_over f code s) && has_way f (frame_map f s.at + length (piece_over f code s)) s
+    has_bytes f (frame_map f s.at) (counter_there f s)
+    && has_bytes f (piece_place f s) (piece_over f code s)
+    && has_way f (piece_place f s + length (piece_over f code s)) s
 
 -- the input's code is that of a run on the run's addresses, and ends behind them
 abbrev pub HasRun : List ℕ → Run → Type 0

@@ -10,6 +10,10 @@ pub mod StepTable
 pub mod Sound
 pub mod ThroughStub
 pub mod AtSite
+-- counters: their places and numbers, and what one in front of a piece comes to
+pub mod Numbers
+pub mod Counters
+pub mod CountedSite
 pub mod OneStep
 pub mod Paces
 pub mod Simulating

@@ -1,30 +1,41 @@
-//! The piece of a site where a frame maps the site, and what leads on behind it.
+//! The counter and the piece of a site where a frame maps the site, and what leads on behind them.
 
 ghost use Rattle.std.specs.Prelude.{◌≡◌, ℕ, ◌∷◌, [], ◌+◌, ◌<◌, ◌≤◌, ◌^◌, true, List, Option, Some, length};
 ghost use Rattle.mv_base.specs.Memory.{exec_bytes};
 ghost use Rattle.elf32_read.specs.Runs.{code_of};
+ghost use Rattle.counter_hooks.specs.Rules.{Ascend};
 ghost use Rattle.superset.specs.Targets.{target as target_of};
 ghost use Rattle.simulation_laws.specs.Code.{site_at};
 ghost use Rattle.simulation_laws.specs.Front.{begins};
-ghost use Rattle.simulation_laws.specs.Pieces.{piece as piece_of};
-ghost use Rattle.simulation_laws.specs.Relocated.{IsOutput, anchors_of};
+ghost use Rattle.simulation_laws.specs.Pieces.{counter_code, piece as piece_of};
+ghost use Rattle.simulation_laws.specs.Relocated.{
+  IsOutput,
+  anchors_of,
+  counted,
+  counter_of as place_of,
+};
 ghost use Rattle.simulation_laws.specs.Standing.{has_bytes, has_piece, has_way, HasRun};
 ghost use Rattle.simulation_laws.specs.Stepping.{SiteLaw};
 
 use crate::anchors::Anchors;
 use branch_lengthen::{branch_piece, copy_piece, count_piece, join_piece, jump_piece};
 use call_rewrite::{call_piece, call_via_piece, jump_via_piece, return_piece};
+use counter_hooks::counter_piece;
 use elf32_read::Run;
 use elf32_write::Frame;
+use std::cmp::Ordering;
 use superset::{Piece, Site, successor, target};
 use x86_insn::Flow;
 
-/// Whether the frame's code has, where the frame maps a site of the run, the site's piece, and behind it, where the
-/// instruction may go on, the successor's entry or a join to it. Where it does, and the file loads as an output over an
-/// input with this run, each clear step of the input at the site has its law: from states that agree the output comes
-/// within the bound to what the step comes to, completed or stopped, and shows nothing else on the way.
+/// Whether the frame's code has, where the frame maps a site of the run, the site's counter, if the frame counts the
+/// site, then the site's piece, and behind it, where the instruction may go on, the successor's entry or a join to it.
+/// The addresses that the frame counts strictly ascend. Where the code has all this, and the file loads as an output over
+/// an input with this run, each clear step of the input at the site has its law: from states that agree the output comes
+/// within the bound to what the step comes to, completed or stopped, with the site counted once more, and shows nothing
+/// else on the way.
 pub fn piece_at(frame: &Frame<'_>, run: &Run, site: &Site) -> bool
-    requires { site_at (code_of (run.now ∷ [])) site.now.at ≡ Some site.now }
+    requires site { site_at (code_of (run.now ∷ [])) site.now.at ≡ Some site.now }
+    requires ascends { Ascend (counted frame.now) }
     ensures value { result ≡ has_piece frame.now (code_of (run.now ∷ [])) site.now }
     ensures law { result ≡ true → (b x : List ℕ) →
         IsOutput b x frame.now → HasRun b run.now → SiteLaw b x frame.now site.now }
@@ -54,10 +65,16 @@ pub fn piece_bytes(own: &[u8], site: &Site, anchors: Anchors, here: u32, to: u32
 
 // The same, and nothing about a run.
 fn piece_stands(frame: &Frame<'_>, run: &Run, site: &Site) -> bool
-    requires { site_at (code_of (run.now ∷ [])) site.now.at ≡ Some site.now }
+    requires site { site_at (code_of (run.now ∷ [])) site.now.at ≡ Some site.now }
+    requires ascends { Ascend (counted frame.now) }
     ensures { result ≡ has_piece frame.now (code_of (run.now ∷ [])) site.now }
 {
-    let here = frame.map(site.at);
+    let entry = frame.map(site.at);
+    let counter = counter_bytes(frame, site.at);
+    if !stands(frame, entry, counter.as_slice()) {
+        return false;
+    }
+    let here = entry + counter.len() as u32;
     let anchors = Anchors {
         stub: frame.code().lo(),
         private: frame.private(),
@@ -73,6 +90,35 @@ fn piece_stands(frame: &Frame<'_>, run: &Run, site: &Site) -> bool
         return false;
     }
     leads_on(frame, site, here + piece.len() as u32)
+}
+
+// The counter of an address, or no byte where the frame doesn't count it.
+fn counter_bytes(frame: &Frame<'_>, address: u32) -> Piece
+    requires { Ascend (counted frame.now) }
+    ensures { result ≡ counter_code (anchors_of frame.now) (place_of frame.now address) }
+{
+    match counter_of(frame, address) {
+        Some(counter) => counter_piece(frame.private(), counter),
+        None => Piece::new(&[]),
+    }
+}
+
+// Where the counter of an address is, if the frame counts it.
+fn counter_of(frame: &Frame<'_>, address: u32) -> Option<u32>
+    requires { Ascend (counted frame.now) }
+    ensures { result ≡ place_of frame.now address }
+{
+    let mut low = 0;
+    let mut high = frame.counter_count();
+    while low < high {
+        let middle = low + (high - low) / 2;
+        match frame.counted_at(middle).cmp(&address) {
+            Ordering::Less => low = middle + 1,
+            Ordering::Equal => return Some(frame.counter_place(middle)),
+            Ordering::Greater => high = middle,
+        }
+    }
+    None
 }
 
 // The bytes of a site's instruction.

@@ -2,7 +2,7 @@
 -- stopped; where nothing stands, it stops at once.
 use Rattle.std.proofs.Common.{◌≡◌, ℕ, false, List, Option, Some, None, refl, sym, ap, ◌∙◌, subst, ⊎_elim, arith}
 use Rattle.std.proofs.lemmas.Bool.{cases_Bool, cond-false}
-use Rattle.mv_base.specs.Memory.{Cell, exec_byte, exec_byte_of, exec_bytes}
+use Rattle.mv_base.specs.Memory.{Cell, IsMemory, exec_byte, exec_byte_of, exec_bytes}
 use Rattle.x86_insn.specs.Spelling.{decoded}
 use Rattle.x86_insn.specs.State.{State, Outcome, Next, Stopped}
 use Rattle.x86_insn.specs.declared.stop.Kind.TheVariants.{FetchFault}
@@ -63,10 +63,10 @@ unknown_there e = grind arith
 -- what the output comes to, by what the input fetches: at a site what the input comes to, else at once a fetch fault there
 abbrev pub Goes : Frame → State → State → Outcome → Fetched → Type 0
 Goes f o t X Absent = step t ≡ Stopped (Trap FetchFault o.eip) t
-Goes f o t X (Found i n) = MeetsWithin f o t X
+Goes f o t X (Found i n) = MeetsWithin f o.eip o t X
 Goes f o t X Unknown = step t ≡ Stopped (Trap FetchFault o.eip) t
 
-module _ (b x : List ℕ) (f : Frame) (rel : IsCarried b x f) (o t : State) (own : IsSound b o) (s : Alike x f o t) (place : t.eip ≡ frame_map f o.eip) where
+module _ (b x : List ℕ) (f : Frame) (rel : IsCarried b x f) (o t : State) (own : IsSound b o) (s : Alike x f o t) (cells : IsMemory t.memory) (place : t.eip ≡ frame_map f o.eip) where
   miss_stops : (r : Fetched) → IsNoSite r → fetch o.memory o.eip ≡ r → IsClearMiss f o.eip r → step t ≡ Stopped (Trap FetchFault o.eip) t
   unfolding step
   miss_stops r miss e clear =
@@ -86,7 +86,7 @@ module _ (b x : List ℕ) (f : Frame) (rel : IsCarried b x f) (o t : State) (own
   fetched_goes clear (Found i n) e =
       let site : Site = record { at = o.eip; len = n; insn = i } in
       let here : site_at (code_in b) o.eip ≡ Some site = ap (site_found o.eip) (subst (λ (code : ℕ → Option ℕ). fetch_in code o.eip ≡ Found i n) (code_same b o own) e) in
-      rel.laws o.eip site here o t (record { sound = own; alike = s; at = refl; place = place; found = e }) clear
+      rel.laws o.eip site here o t (record { sound = own; alike = s; cells = cells; at = refl; place = place; found = e }) clear
   fetched_goes clear Unknown e = miss_stops Unknown tt e tt
 
   -- from a clear step of the input
@@ -94,11 +94,11 @@ module _ (b x : List ℕ) (f : Frame) (rel : IsCarried b x f) (o t : State) (own
   step_goes clear = fetched_goes clear (fetch o.memory o.eip) refl
 
   -- so where the input completes a step, the output reaches what it comes to
-  pub step_meets : (o' : State) → IsClearStep b f o → step o ≡ Next o' → MeetsWithin f o t (Next o')
+  pub step_meets : (o' : State) → IsClearStep b f o → step o ≡ Next o' → MeetsWithin f o.eip o t (Next o')
   unfolding step
   step_meets o' clear st = go (fetch o.memory o.eip) refl (step_goes clear)
     where
-      go : (r : Fetched) → fetch o.memory o.eip ≡ r → Goes f o t (step o) r → MeetsWithin f o t (Next o')
+      go : (r : Fetched) → fetch o.memory o.eip ≡ r → Goes f o t (step o) r → MeetsWithin f o.eip o t (Next o')
       go Absent e m = absurd (stops_never (sym (ap (stepped o) e) ∙ st))
-      go (Found i n) e m = subst (MeetsWithin f o t) st m
+      go (Found i n) e m = subst (MeetsWithin f o.eip o t) st m
       go Unknown e m = absurd (stops_never (sym (ap (stepped o) e) ∙ st))

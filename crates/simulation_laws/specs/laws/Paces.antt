@@ -1,11 +1,13 @@
 -- The run of a relocated output follows the run of its input.
-use Rattle.std.proofs.Common.{◌≡◌, ℕ, zero, suc, ◌⊎◌, inl, inr, ◌+◌, ◌-◌, ◌<◌, ◌≤◌, Bool, true, false, List, [], ◌∷◌, Option, Some, None, is_some, refl, sym, ap, ◌∙◌, subst, ⊎_elim, arith}
+use Rattle.std.proofs.Common.{◌≡◌, ℕ, zero, suc, ◌⊎◌, inl, inr, ◌+◌, ◌-◌, ◌%◌, ◌^◌, ◌<◌, ◌≤◌, ◌==◌, if◌then◌else◌, Bool, true, false, List, [], ◌∷◌, Option, Some, None, is_some, refl, sym, ap, ◌∙◌, subst, ⊎_elim, arith}
 use Rattle.std.specs.List.{AllByRecursion}
-use Rattle.std.proofs.lemmas.Bool.{both_ways}
+use Rattle.std.proofs.lemmas.Bool.{both_ways, eq-eqb, ne_eqb, eqb-true, eqb-false}
 use Rattle.std.proofs.lemmas.Option.{none-some, same_Some}
-use Rattle.mv_base.specs.Memory.{Cell, IsMemory, first_of, joined}
+use Rattle.mv_base.specs.Memory.{Cell, IsMemory, byte_of, first_of, joined}
+use Rattle.mv_base.specs.Bytes.{AreBytes}
 use Rattle.mv_base.specs.Effects.{Answer, IsAnswer}
 use Rattle.x86_insn.specs.State.{State}
+use Rattle.step_laws.specs.Bounds.{IsState}
 use Rattle.step_laws.specs.Keeping.{marks}
 use Rattle.step_laws.specs.Beside.{shown, exec_cell, ShowsSame}
 use Rattle.step_laws.specs.Meeting.{Reaches, Moves}
@@ -13,15 +15,18 @@ use Rattle.step_laws.specs.laws.Passing.{passes_arrives}
 use Rattle.step_laws.specs.laws.States.{state_now, state_next, state_later, LastStep, last_step, passes_each}
 use Rattle.step_laws.specs.laws.Cells.{may_execute, exec_cell_none}
 use Rattle.step_laws.specs.laws.Copying.{shows_of}
+use Rattle.step_laws.specs.laws.Lasting.{run_fits}
 use Rattle.elf32_read.specs.Load.{load}
-use Rattle.elf32_write.specs.Frame.{Frame, frame_map, is_added}
+use Rattle.elf32_write.specs.Frame.{Frame, frame_map, is_added, counted_at, counter_place}
 use Rattle.simulation_laws.specs.Relocated.{without_exec}
 use Rattle.simulation_laws.specs.Followed.{IsCarried}
-use Rattle.simulation_laws.specs.Stepping.{area_of, IsSound}
-use Rattle.simulation_laws.specs.Simulation.{Start, IsStart, begin, run_state, IsClear, Agree, executions, BothAre, AgreeAt, newest, IsPace, step_bound, FollowsIn, Follows}
+use Rattle.simulation_laws.specs.Stepping.{counting_area, IsSound}
+use Rattle.simulation_laws.specs.Simulation.{Start, IsStart, begin, run_state, IsClear, Agree, stands_at, executions, BothAre, AgreeAt, newest, IsPace, step_bound, FollowsIn, Follows}
 use Rattle.simulation_laws.specs.Stopping.{ShowsAt, QuietPace}
 use Rattle.simulation_laws.specs.laws.Bounded.{load_low, load_bytes, word_at-lt}
-use Rattle.simulation_laws.specs.laws.Sound.{alike_of, agree_of, alike_after, sound_after}
+use Rattle.simulation_laws.specs.laws.Sound.{HasCounts, counts_on, alike_of, agree_of, alike_beyond, sound_after}
+use Rattle.simulation_laws.specs.laws.Numbers.{zeros_spell}
+use Rattle.simulation_laws.specs.laws.CountedSite.{place_is, private_end, counter_byte, at_byte}
 use Rattle.simulation_laws.specs.laws.OneStep.{step_meets}
 
 -- ---- two states that are there
@@ -41,6 +46,17 @@ pace_at At bound zero (m ∷ []) h = h.1
 pace_at At bound zero (m ∷ k ∷ ms) h = absurd h
 pace_at At bound (suc n) [] h = absurd h
 pace_at At bound (suc n) (m ∷ ms) h = h.2
+
+none_yet : (run : ℕ → Option State) (a : ℕ) → executions run 0 a ≡ 0
+unfolding executions
+none_yet run a = refl
+
+turned : (a b : ℕ) → (a == b) ≡ (b == a)
+turned a b = go (a == b) refl
+  where
+    go : (v : Bool) → (a == b) ≡ v → (a == b) ≡ (b == a)
+    go true e = e ∙ sym (eq-eqb b a (sym (eqb-true a b e)))
+    go false e = e ∙ sym (ne_eqb b a (λ s. eqb-false a b e (sym s)))
 
 -- ---- the first states
 
@@ -77,25 +93,43 @@ module _ (b x : List ℕ) (f : Frame) (rel : IsCarried b x f) where
       go true e = absurd (both_ways (is_some (load b a)) (ap is_some (rel.output.free a e)) h)
       go false e = load_low x rel.output.admitted a (ap is_some (rel.output.outside a e) ∙ kept (load b a) ∙ h)
 
-  begin_memory : (s : Start) → IsStart b s → IsMemory (joined (load b) s.cells)
-  begin_memory s start = record { low = λ a c e. low a (load b a) refl c e; bytes = λ a c e. byte a (load b a) refl c e }
+  begin_memory : (file : List ℕ) → AreBytes file → ((a : ℕ) → is_some (load file a) ≡ true → a < 0xFFFFF000) → (s : Start) → IsStart b s → IsMemory (joined (load file) s.cells)
+  begin_memory file bytes file_low s start = record { low = λ a c e. low a (load file a) refl c e; bytes = λ a c e. byte a (load file a) refl c e }
     where
-      low : (a : ℕ) (d : Option Cell) → load b a ≡ d → (c : Cell) → first_of d (s.cells a) ≡ Some c → a < 0xFFFFF000
+      low : (a : ℕ) (d : Option Cell) → load file a ≡ d → (c : Cell) → first_of d (s.cells a) ≡ Some c → a < 0xFFFFF000
       low a None p c e = start.cells.low a c e
       low a (Some d) p c e = file_low a (ap is_some p)
 
-      byte : (a : ℕ) (d : Option Cell) → load b a ≡ d → (c : Cell) → first_of d (s.cells a) ≡ Some c → c.byte < 256
+      byte : (a : ℕ) (d : Option Cell) → load file a ≡ d → (c : Cell) → first_of d (s.cells a) ≡ Some c → c.byte < 256
       byte a None p c e = start.cells.bytes a c e
-      byte a (Some d) p c e = load_bytes b rel.output.bytes a c (p ∙ e)
+      byte a (Some d) p c e = load_bytes file bytes a c (p ∙ e)
 
   begin_sound : (s : Start) (answers : List Answer) → IsStart b s → AllByRecursion IsAnswer answers → IsSound b (begin b s answers)
   begin_sound s answers start good = record {
-    bounds = record { core = start.core; place = word_at-lt b 24 rel.output.bytes; memory = begin_memory s start; answers = good };
+    bounds = record { core = start.core; place = word_at-lt b 24 rel.output.bytes; memory = begin_memory b rel.output.bytes file_low s start; answers = good };
     code = λ a. joined_code (load b a) (s.cells a) (start.idle a);
   }
 
-  begin_agree : (s : Start) (answers : List Answer) (c : ℕ → ℕ) → IsStart b s → ((a : ℕ) → is_added f a ≡ true → s.cells a ≡ None) → Agree b x f (begin b s answers) (begin x s answers) c
-  begin_agree s answers c start clear = record {
+  begin_fits : (s : Start) (answers : List Answer) → IsStart b s → AllByRecursion IsAnswer answers → IsState (begin x s answers)
+  begin_fits s answers start good = record {
+    core = start.core;
+    place = word_at-lt x 24 rel.output.bytes_there;
+    memory = begin_memory x rel.output.bytes_there (load_low x rel.output.admitted) s start;
+    answers = good;
+  }
+
+  -- each counter begins at 0
+  begin_counts : (s : Start) (c : ℕ → ℕ) → ((a : ℕ) → c a ≡ 0) → ((a : ℕ) → is_added f a ≡ true → s.cells a ≡ None) → HasCounts f (joined (load x) s.cells) c
+  begin_counts s c none clear k lt =
+      let place = counter_place f k in
+      zeros_spell (joined (load x) s.cells) place (omega (arith, place_is b x f rel.output k, lt, private_end b x f rel.output)) (λ j l.
+      let private = counter_byte b x f rel.output k j lt l in
+      ap (λ a. byte_of (joined (load x) s.cells a)) (at_byte b x f rel.output k j lt l)
+      ∙ (ap byte_of (joined_alone (load x (place + j)) (s.cells (place + j)) (clear (place + j) (rel.output.scratch (place + j) private).0)) ∙ rel.output.zeros (place + j) private))
+      ∙ ap (λ (n : ℕ). n % 2 ^ 64) (sym (none (counted_at f k)))
+
+  begin_agree : (s : Start) (answers : List Answer) (c : ℕ → ℕ) → ((a : ℕ) → c a ≡ 0) → IsStart b s → ((a : ℕ) → is_added f a ≡ true → s.cells a ≡ None) → Agree b x f (begin b s answers) (begin x s answers) c
+  begin_agree s answers c none start clear = record {
     core = refl;
     calls = refl;
     answers = refl;
@@ -106,7 +140,7 @@ module _ (b x : List ℕ) (f : Frame) (rel : IsCarried b x f) where
     code = λ a. joined_code (load b a) (s.cells a) (start.idle a);
     block = λ a i. ap marks (joined_alone (load x a) (s.cells a) (clear a i));
     kept = λ a i j. joined_alone (load x a) (s.cells a) (clear a i);
-    counts = λ k h. absurd (omega (arith, rel.output.uncounted));
+    counts = begin_counts s c none clear;
   }
 
   -- ---- the pace
@@ -116,9 +150,13 @@ module _ (b x : List ℕ) (f : Frame) (rel : IsCarried b x f) where
     pub sound : (n : ℕ) (o : State) → run_state b s answers n ≡ Some o → IsSound b o
     sound n o e = sound_after b x f rel.output n (begin b s answers) o (begin_sound s answers start good) e
 
+    -- and the output's m-th
+    pub fits : (m : ℕ) (t : State) → run_state x s answers m ≡ Some t → IsState t
+    fits m t e = run_fits m (begin x s answers) t (begin_fits s answers start good) e
+
     begins : IsClear b f s answers 0 → QuietPace b x f s answers 0
     begins clear =
-        record { pace = 0 ∷ []; paced = (refl, both_from (λ o t. Agree b x f o t (executions (run_state b s answers) 0)) _ _ (begin b s answers) (begin x s answers) (start_of b) (start_of x) (begin_agree s answers _ start clear.start)); quiet = tt }
+        record { pace = 0 ∷ []; paced = (refl, both_from (λ o t. Agree b x f o t (executions (run_state b s answers) 0)) _ _ (begin b s answers) (begin x s answers) (start_of b) (start_of x) (begin_agree s answers _ (none_yet (run_state b s answers)) start clear.start)); quiet = tt }
       where
         start_of : (file : List ℕ) → run_state file s answers 0 ≡ Some (begin file s answers)
         start_of file = state_now (begin file s answers)
@@ -128,8 +166,15 @@ module _ (b x : List ℕ) (f : Frame) (rel : IsCarried b x f) where
     agreeing n o way here =
         both_other (λ o t. Agree b x f o t (executions (run_state b s answers) n)) _ (run_state x s answers (newest way.pace)) o here (pace_at (AgreeAt b x f s answers) (step_bound f) n way.pace way.paced)
 
+    -- one execution more of where the input's n-th state stands
+    executions_on : (n : ℕ) (o : State) (a : ℕ) → run_state b s answers n ≡ Some o → executions (run_state b s answers) (suc n) a ≡ executions (run_state b s answers) n a + (if a == o.eip then 1 else 0)
+    unfolding executions
+    executions_on n o a here =
+        ap (λ (r : Option State). executions (run_state b s answers) n a + (if stands_at a r then 1 else 0)) here
+        ∙ ap (λ (v : Bool). executions (run_state b s answers) n a + (if v then 1 else 0)) (turned o.eip a)
+
     -- from one agreeing state to the next, the output shows what the input shows before the step or after it
-    goes_quietly : (n m : ℕ) (o o' t : State) → run_state b s answers n ≡ Some o → run_state b s answers (suc n) ≡ Some o' → run_state x s answers m ≡ Some t → (count : ℕ) (h : Reaches (area_of f) count (Moves (frame_map f)) o o' t) → (k : ℕ) → m ≤ k → k ≤ m + count → ShowsAt b x f s answers n k ⊎ ShowsAt b x f s answers (suc n) k
+    goes_quietly : (n m : ℕ) (o o' t : State) → run_state b s answers n ≡ Some o → run_state b s answers (suc n) ≡ Some o' → run_state x s answers m ≡ Some t → (count : ℕ) (h : Reaches (counting_area f) count (Moves (frame_map f)) o o' t) → (k : ℕ) → m ≤ k → k ≤ m + count → ShowsAt b x f s answers n k ⊎ ShowsAt b x f s answers (suc n) k
     goes_quietly n m o o' t here next there count h k low high =
         let u = passes_each _ count t h.last h.passes (inr (shows_of (is_added f) o' h.last h.alike)) (k - m) (omega (arith, low, high)) in
         let back : m + (k - m) ≡ k = omega (arith, low) in
@@ -145,9 +190,12 @@ module _ (b x : List ℕ) (f : Frame) (rel : IsCarried b x f) where
             let other = agreeing n l.before way l.there in
             let first = state_next n (begin b s answers) l.before l.after l.there l.steps in
             let alike = alike_of b x f l.before other.0 _ other.2 in
-            let comes = step_meets b x f rel l.before other.0 (sound n l.before l.there) alike other.2.place l.after (clear.steps n (omega arith) l.before l.there) l.steps in
-            let r = comes.meets in
-            let agree = agree_of b x f l.after r.last (executions (run_state b s answers) (suc n)) rel.output.uncounted (sound (suc n) l.after first) (alike_after x f l.before l.after other.0 r.last alike r.alike r.keeps) r.arrives in
+            let comes = step_meets b x f rel l.before other.0 (sound n l.before l.there) alike (fits m other.0 other.1).memory other.2.place l.after (clear.steps n (omega arith) l.before l.there) l.steps in
+            let r = comes.comes.0 in
+            let counts = counts_on f l.before.eip other.0.memory r.last.memory (executions (run_state b s answers) n) other.2.counts comes.comes.1 in
+            let more : HasCounts f r.last.memory (executions (run_state b s answers) (suc n)) =
+            λ k lt. counts k lt ∙ ap (λ (c : ℕ). c % 2 ^ 64) (sym (executions_on n l.before (counted_at f k) l.there)) in
+            let agree = agree_of b x f l.after r.last (executions (run_state b s answers) (suc n)) (sound (suc n) l.after first) (alike_beyond x f l.before l.after other.0 r.last alike r.alike r.keeps) r.arrives more in
             let second = state_later comes.count m (begin x s answers) other.0 r.last other.1 (passes_arrives _ comes.count other.0 r.last r.passes) in
             record {
               pace = (m + comes.count) ∷ way.pace;

@@ -17,6 +17,7 @@ pub record IsRuled (f : Frame) : Type 0 where
   pub table : f.table.lo + f.table.len ≤ f.private
   pub private : f.private + 64 ≤ 0xB0000000
   pub size : f.private_size ≡ 64
+  pub first : f.first_counter ≡ f.private + 64
   pub added : f.code.lo ≡ f.added.lo
   pub fits : f.private + private_len f.counters ≤ f.added.lo + f.added.len
   pub list : f.list ≤ f.table.lo + f.table.len
@@ -45,6 +46,7 @@ rules_hold f h =
     let table : f.table.lo ≡ f.added.lo + up f.code.len = eqb-true _ _ p1.1 in
     let private : f.private ≡ f.table.lo + up f.table.len = eqb-true _ _ p2.1 in
     let size : f.private_size ≡ 64 = eqb-true _ _ p3.1 in
+    let first : f.first_counter ≡ f.private + 64 = eqb-true _ _ p4.1 in
     let list : f.list ≡ f.table.lo + (f.table.len - 4 * f.counters) = eqb-true _ _ p6.1 in
     let added : f.added.len ≡ up f.code.len + up f.table.len + up (private_len f.counters) = eqb-true _ _ p7.1 in
     let whole : length f.file ≡ code_place f.input_len + up f.code.len + up f.table.len = eqb-true _ _ b1.0 in
@@ -57,6 +59,7 @@ rules_hold f h =
       table = omega (arith, private, t);
       private = omega (arith, table, private, added, low, s);
       size = size;
+      first = first;
       added = code;
       fits = omega (arith, code, table, private, added, s);
       list = omega (arith, list);

@@ -2,6 +2,7 @@
 use Rattle.std.proofs.Common.{◌≡◌, ℕ, inl, inr, ◌+◌, ◌-◌, ◌≤◌, List, Option, Some, None, is_some, refl, sym, ap, ◌∙◌, subst, arith}
 use Rattle.std.specs.List.{AllByRecursion}
 use Rattle.std.proofs.lemmas.Option.{same_Some}
+use Rattle.mv_base.specs.Memory.{IsMemory}
 use Rattle.mv_base.specs.Effects.{Answer, IsAnswer}
 use Rattle.x86_insn.specs.State.{State, Outcome, Next, Stopped}
 use Rattle.x86_insn.specs.declared.stop.Stop.{Stop}
@@ -19,13 +20,13 @@ use Rattle.superset.specs.Sites.{site_found}
 use Rattle.simulation_laws.specs.Code.{site_at, code_in}
 use Rattle.simulation_laws.specs.Followed.{IsCarried}
 use Rattle.simulation_laws.specs.Relocated.{IsRelocated}
-use Rattle.simulation_laws.specs.laws.AtSite.{site_law}
+use Rattle.simulation_laws.specs.laws.CountedSite.{site_law}
 use Rattle.simulation_laws.specs.Stepping.{IsSound, MeetsWithin}
 use Rattle.simulation_laws.specs.Simulation.{Start, IsStart, begin, run_state, IsClear, IsClearStep, Agree, newest, step_bound}
-use Rattle.simulation_laws.specs.Stopping.{QuietIn, StopsSame, StopsAs, StopsIn, Simulates}
-use Rattle.simulation_laws.specs.laws.Sound.{alike_of, code_same}
+use Rattle.simulation_laws.specs.Stopping.{QuietIn, StopsAs, StopsIn, Simulates}
+use Rattle.simulation_laws.specs.laws.Sound.{HasCounts, counts_on, alike_of, code_same}
 use Rattle.simulation_laws.specs.laws.OneStep.{Goes, step_goes}
-use Rattle.simulation_laws.specs.laws.Paces.{both_from, sound, agreeing, followed, follows}
+use Rattle.simulation_laws.specs.laws.Paces.{both_from, sound, fits, agreeing, followed, follows}
 
 -- ---- one stop
 
@@ -48,14 +49,10 @@ record StopsSoon (site : Option Site) (f : Frame) (o t : State) (why : Stop) (la
   alike : StopsAs site f more o.eip why last why_there last_there c
 
 module _ (b x : List ℕ) (f : Frame) (rel : IsCarried b x f) where
-  -- like states are the same at a stop, where no site is counted
-  stops_same : (at : ℕ) (o t : State) (c : ℕ → ℕ) → StatesBeside (is_added f) o t → StopsSame f at o t c
-  stops_same at o t c s = record { core = s.core; same = shows_of (is_added f) o t s; counts = λ k h. absurd (omega (arith, rel.output.uncounted)) }
-
   -- at a site
-  site_stops : (site : Site) (o t last : State) (why : Stop) (c : ℕ → ℕ) → MeetsWithin f o t (Stopped why last) → StopsSoon (Some site) f o t why last c
-  site_stops site o t last why c m =
-      let h = m.meets in
+  site_stops : (site : Site) (o t last : State) (why : Stop) (c : ℕ → ℕ) → HasCounts f t.memory c → MeetsWithin f o.eip o t (Stopped why last) → StopsSoon (Some site) f o t why last c
+  site_stops site o t last why c has m =
+      let h = m.comes.0 in
       record {
         more = h.count;
         bounded = omega (arith, h.fewer, m.most);
@@ -65,7 +62,7 @@ module _ (b x : List ℕ) (f : Frame) (rel : IsCarried b x f) where
         why_there = why;
         last_there = h.stopped;
         stops = h.stops;
-        alike = (refl, stops_same o.eip last h.stopped c h.alike);
+        alike = (refl, record { core = h.alike.core; same = shows_of (is_added f) last h.stopped h.alike; counts = counts_on f o.eip t.memory h.stopped.memory c has m.comes.1 });
       }
 
   -- where there is none
@@ -83,18 +80,18 @@ module _ (b x : List ℕ) (f : Frame) (rel : IsCarried b x f) where
   }
 
   -- and by what the input fetches
-  fetched_stops : (o t last : State) (why : Stop) (c : ℕ → ℕ) (r : Fetched) → StatesBeside (is_added f) o t → stepped o r ≡ Stopped why last → Goes f o t (Stopped why last) r → StopsSoon (site_found o.eip r) f o t why last c
-  fetched_stops o t last why c Absent s st h = miss_stops o t last why c s h (refl, refl, inl (ap why_of (sym st)))
-  fetched_stops o t last why c (Found i n) s st h = site_stops (record { at = o.eip; len = n; insn = i }) o t last why c h
-  fetched_stops o t last why c Unknown s st h = miss_stops o t last why c s h (refl, refl, inr (ap why_of (sym st)))
+  fetched_stops : (o t last : State) (why : Stop) (c : ℕ → ℕ) (r : Fetched) → HasCounts f t.memory c → StatesBeside (is_added f) o t → stepped o r ≡ Stopped why last → Goes f o t (Stopped why last) r → StopsSoon (site_found o.eip r) f o t why last c
+  fetched_stops o t last why c Absent has s st h = miss_stops o t last why c s h (refl, refl, inl (ap why_of (sym st)))
+  fetched_stops o t last why c (Found i n) has s st h = site_stops (record { at = o.eip; len = n; insn = i }) o t last why c has h
+  fetched_stops o t last why c Unknown has s st h = miss_stops o t last why c s h (refl, refl, inr (ap why_of (sym st)))
 
   -- from agreeing states and a step of the input that is a stop and clear, the output stops so
-  step_stops : (o t last : State) (why : Stop) (c : ℕ → ℕ) → IsSound b o → Agree b x f o t c → IsClearStep b f o → step o ≡ Stopped why last → StopsSoon (site_at (code_in b) o.eip) f o t why last c
+  step_stops : (o t last : State) (why : Stop) (c : ℕ → ℕ) → IsSound b o → Agree b x f o t c → IsMemory t.memory → IsClearStep b f o → step o ≡ Stopped why last → StopsSoon (site_at (code_in b) o.eip) f o t why last c
   unfolding step
-  step_stops o t last why c own a clear st =
+  step_stops o t last why c own a cells clear st =
       let s = alike_of b x f o t c a in
-      let goes = subst (λ X. Goes f o t X (fetch o.memory o.eip)) st (step_goes b x f rel o t own s a.place clear) in
-      subst (λ (code : ℕ → Option ℕ). StopsSoon (site_at code o.eip) f o t why last c) (code_same b o own) (fetched_stops o t last why c (fetch o.memory o.eip) s.beside st goes)
+      let goes = subst (λ X. Goes f o t X (fetch o.memory o.eip)) st (step_goes b x f rel o t own s cells a.place clear) in
+      subst (λ (code : ℕ → Option ℕ). StopsSoon (site_at code o.eip) f o t why last c) (code_same b o own) (fetched_stops o t last why c (fetch o.memory o.eip) a.counts s.beside st goes)
 
   -- ---- whole runs
 
@@ -110,7 +107,7 @@ module _ (b x : List ℕ) (f : Frame) (rel : IsCarried b x f) where
         let way = followed b x f rel s answers start good n (ap is_some here) (clear_until n clear) in
         let m = newest way.pace in
         let other = agreeing b x f rel s answers start good n o way here in
-        let soon = step_stops o other.0 last why _ (sound b x f rel s answers start good n o here) other.2 (clear.steps n (omega arith) o here) st in
+        let soon = step_stops o other.0 last why _ (sound b x f rel s answers start good n o here) other.2 (fits b x f rel s answers start good m other.0 other.1).memory (clear.steps n (omega arith) o here) st in
         record {
           way = way;
           more = soon.more;
@@ -141,4 +138,4 @@ simulates b x f rel = record {
 -- an output that has each site's piece is followed by the pieces' laws
 pub relocated_simulates : (b x : List ℕ) (f : Frame) → IsRelocated b x f → Simulates b x
 relocated_simulates b x f rel =
-    simulates b x f (record { output = rel.output; entry = rel.entry; laws = λ a s e. site_law b x f s rel.output (rel.pieces a s e); others = rel.others })
+    simulates b x f (record { output = rel.output; entry = rel.entry; laws = λ a s e. site_law b x f s rel.output rel.ascends (rel.pieces a s e); others = rel.others })

@@ -1,8 +1,8 @@
 -- What holds between the input's state and the output's along both runs, and what keeps it.
-use Rattle.std.proofs.Common.{◌≡◌, ℕ, ◌+◌, ◌^◌, ◌<◌, true, false, List, length, Some, nat_le, nat_lt, sym, ap, ◌∙◌, ⊎_elim, pred, arith}
+use Rattle.std.proofs.Common.{◌≡◌, ℕ, ◌+◌, ◌%◌, ◌^◌, ◌<◌, true, false, ◌==◌, if◌then◌else◌, List, length, Some, nat_le, nat_lt, sym, ap, ◌∙◌, ⊎_elim, pred, arith}
 use mathlib.Core.Path.{fun_ext}
 use Rattle.std.proofs.lemmas.Bool.{both_ways, cases_Bool, and_parts, and_from, le-leb, lt-ltb, ltb-true}
-use Rattle.mv_base.specs.Memory.{exec_byte, exec_byte_of, within}
+use Rattle.mv_base.specs.Memory.{Memory, exec_byte, exec_byte_of, within}
 use Rattle.x86_insn.specs.State.{State}
 use Rattle.x86_insn.specs.Run.{state_after}
 use Rattle.step_laws.specs.Beside.{StatesBeside}
@@ -12,11 +12,24 @@ use Rattle.step_laws.specs.laws.Cells.{exec_cell_byte}
 use Rattle.step_laws.specs.laws.Coding.{same_then, fixed_same}
 use Rattle.step_laws.specs.laws.Lasting.{run_fits, run_leaves}
 use Rattle.elf32_read.specs.Load.{load}
-use Rattle.elf32_write.specs.Frame.{Frame, frame_map, is_added, is_private}
+use Rattle.elf32_write.specs.Frame.{Frame, frame_map, is_added, is_private, counted_at}
 use Rattle.simulation_laws.specs.Code.{code_in}
 use Rattle.simulation_laws.specs.Relocated.{StandAt, IsOutput}
 use Rattle.simulation_laws.specs.Simulation.{Agree}
-use Rattle.simulation_laws.specs.Stepping.{area_of, IsSound, Alike}
+use Rattle.simulation_laws.specs.Stepping.{area_of, counting_area, IsSound, Alike, CountsOne, counter_number}
+
+-- each counter has its address's number, modulo 2^64
+abbrev pub HasCounts : Frame → Memory → (ℕ → ℕ) → Type 0
+HasCounts f m c = (k : ℕ) → k < f.counters → counter_number f m k ≡ c (counted_at f k) % 2 ^ 64
+
+-- so each has what comes of one more at an address
+pub counts_on : (f : Frame) (at : ℕ) (m u : Memory) (c : ℕ → ℕ) → HasCounts f m c → CountsOne f at m u → (k : ℕ) → k < f.counters → counter_number f u k ≡ (c (counted_at f k) + (if counted_at f k == at then 1 else 0)) % 2 ^ 64
+counts_on f at m u c has one k lt =
+    let d = if counted_at f k == at then 1 else 0 in
+    one k lt ∙ (ap (λ (n : ℕ). (n + d) % 2 ^ 64) (has k lt) ∙ sum (c (counted_at f k)) d)
+  where
+    sum : (n d : ℕ) → (n % 2 ^ 64 + d) % 2 ^ 64 ≡ (n + d) % 2 ^ 64
+    sum n d = omega arith
 
 pub alike_of : (b x : List ℕ) (f : Frame) (o t : State) (c : ℕ → ℕ) → Agree b x f o t c → Alike x f o t
 alike_of b x f o t c a = record {
@@ -26,9 +39,9 @@ alike_of b x f o t c a = record {
   kept = a.kept;
 }
 
--- so states at places that belong together agree, where no site is counted
-pub agree_of : (b x : List ℕ) (f : Frame) (o t : State) (c : ℕ → ℕ) → f.counters ≡ 0 → IsSound b o → Alike x f o t → t.eip ≡ frame_map f o.eip → Agree b x f o t c
-agree_of b x f o t c none own s place = record {
+-- so states at places that belong together agree, where the counters have these numbers
+pub agree_of : (b x : List ℕ) (f : Frame) (o t : State) (c : ℕ → ℕ) → IsSound b o → Alike x f o t → t.eip ≡ frame_map f o.eip → HasCounts f t.memory c → Agree b x f o t c
+agree_of b x f o t c own s place counts = record {
   core = s.beside.core;
   calls = s.beside.calls;
   answers = s.beside.answers;
@@ -39,7 +52,7 @@ agree_of b x f o t c none own s place = record {
   code = own.code;
   block = s.block;
   kept = s.kept;
-  counts = λ k h. absurd (omega (arith, none));
+  counts = counts;
 }
 
 -- the input's code is what its state has to execute
@@ -55,14 +68,21 @@ scratch_private f a h =
 pub public_fixed : (f : Frame) (a : ℕ) → is_private f a ≡ false → within f.private private_len a ≡ false
 public_fixed f a h = ⊎_elim (λ e. absurd (both_ways (is_private f a) h (scratch_private f a e))) (λ e. e) (cases_Bool (within f.private private_len a))
 
--- what a piece leaves of the output's memory keeps likeness
-pub alike_after : (x : List ℕ) (f : Frame) (o o' t u : State) → Alike x f o t → StatesBeside (is_added f) o' u → Keeps (area_of f) t.memory u.memory → Alike x f o' u
-alike_after x f o o' t u s w k = record {
+-- what a piece leaves of the output's memory, one with its counter leaves too
+pub keeps_more : (f : Frame) (t u : Memory) → Keeps (area_of f) t u → Keeps (counting_area f) t u
+keeps_more f t u k = record { idle = k.idle; marks = k.marks; kept = λ a i j. k.kept a i (public_fixed f a j) }
+
+-- and that keeps likeness
+pub alike_beyond : (x : List ℕ) (f : Frame) (o o' t u : State) → Alike x f o t → StatesBeside (is_added f) o' u → Keeps (counting_area f) t.memory u.memory → Alike x f o' u
+alike_beyond x f o o' t u s w k = record {
   beside = w;
   idle = λ a i. k.idle a i (s.idle a i);
   block = λ a i. k.marks a i ∙ s.block a i;
-  kept = λ a i j. k.kept a i (public_fixed f a j) ∙ s.kept a i j;
+  kept = λ a i j. k.kept a i j ∙ s.kept a i j;
 }
+
+pub alike_after : (x : List ℕ) (f : Frame) (o o' t u : State) → Alike x f o t → StatesBeside (is_added f) o' u → Keeps (area_of f) t.memory u.memory → Alike x f o' u
+alike_after x f o o' t u s w k = alike_beyond x f o o' t u s w (keeps_more f t.memory u.memory k)
 
 module _ (b x : List ℕ) (f : Frame) (rel : IsOutput b x f) where
   pub added_low : (a : ℕ) → is_added f a ≡ true → a < 2 ^ 32
@@ -86,6 +106,16 @@ module _ (b x : List ℕ) (f : Frame) (rel : IsOutput b x f) where
     private = private_at;
     added = λ a e. (rel.scratch a (scratch_private f a e)).0;
     writable = λ a e. let p = rel.scratch a (scratch_private f a e) in marks_writable (t.memory a) (load x a) (s.block a p.0) ∙ p.1;
+  }
+
+  -- and the counters
+  pub counting_there : (o t : State) → Alike x f o t → HasArea (counting_area f) t.memory
+  counting_there o t s = record {
+    low = added_low;
+    fits = (area_there o t s).fits;
+    private = λ k h. scratch_private f (f.private + k) (private_at k h);
+    added = λ a e. (rel.scratch a e).0;
+    writable = λ a e. let p = rel.scratch a e in marks_writable (t.memory a) (load x a) (s.block a p.0) ∙ p.1;
   }
 
   pub stands_in : (o t : State) (at : ℕ) (bytes : List ℕ) → Alike x f o t → StandAt x f at bytes → 0 < length bytes → StandsIn (area_of f) t.memory at bytes
