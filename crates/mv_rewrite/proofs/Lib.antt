@@ -2,6 +2,7 @@
 pub mod Instance
 pub mod LayoutFacts
 -- what stands where in an output, and how it loads, lowest first
+pub mod Longer
 pub mod PlacedPlan
 pub mod Fine
 pub mod NewHeaders

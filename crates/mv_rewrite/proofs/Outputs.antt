@@ -1,9 +1,10 @@
 -- The output of a file with no fault simulates it.
-use Rattle.std.proofs.Common.{◌≡◌, ℕ, ◌≤◌, List, length, Some, None, refl}
+use Rattle.std.proofs.Common.{◌≡◌, ℕ, ◌≤◌, List, length, Some, None}
 use Rattle.mv_base.specs.Bytes.{AreBytes}
 use Rattle.elf32_read.specs.Faults.{load_refusal, limit_fault}
 use Rattle.elf32_read.specs.RunCount.{header_count-admitted}
 use Rattle.elf32_read.specs.Segments.{code_of-runs_of}
+use Rattle.counter_hooks.specs.declared.rules.Rule.{Rule}
 use Rattle.mv_rewrite.specs.Layout.{base_of}
 use Rattle.mv_rewrite.specs.Output.{output_at}
 use Rattle.simulation_laws.specs.Stopping.{Simulates}
@@ -13,13 +14,14 @@ use Rattle.mv_rewrite.proofs.Recorded.{frame_is}
 use Rattle.mv_rewrite.proofs.Relocating.{relocated}
 use Rattle.simulation_laws.specs.laws.Simulating.{relocated_simulates}
 
-pub simulated : (b : List ℕ) (base : ℕ) → IsInput b base → Simulates b (output_at b base)
-simulated b base is = relocated_simulates b (output_at b base) (frame_is b base) (relocated b base is)
+pub simulated : (b : List ℕ) (rule : Rule) (base : ℕ) → IsInput b rule base → Simulates b (output_at b rule base)
+simulated b rule base is = relocated_simulates b (output_at b rule base) (frame_is b rule base) (relocated b rule base is)
 
 -- a file with no fault, within the limits, is an input for the block where it lies
-pub image_input : (b : List ℕ) (base : ℕ) → load_refusal b ≡ None → limit_fault b ≡ None → AreBytes b → length b ≤ 67108864 → base_of b ≡ Some base → IsInput b base
-image_input b base whole admitted bytes small at = record {
+pub image_input : (b : List ℕ) (rule : Rule) (base : ℕ) → load_refusal b ≡ None → limit_fault b ≡ None → AreBytes b → AreBytes (output_at b rule base) → length b ≤ 67108864 → base_of b rule ≡ Some base → IsInput b rule base
+image_input b rule base whole admitted bytes there small at = record {
   bytes = bytes;
+  bytes_there = there;
   small = small;
   loads = whole;
   few_headers = header_count-admitted b admitted;

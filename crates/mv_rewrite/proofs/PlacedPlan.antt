@@ -1,15 +1,16 @@
 -- From where the plan's bytes are loaded to what stands at each site's entry, and to the stub and the table.
-use Rattle.std.proofs.Common.{◌≡◌, ℕ, zero, suc, ◌+◌, ◌-◌, ◌*◌, ◌/◌, ◌^◌, ◌<◌, ◌≤◌, true, false, cond, eqb, ltb, leb, List, [], ◌∷◌, ◌++◌, length, Option, Some, None, refl, sym, ap, ◌∙◌, subst, inl, inr, arith}
+use Rattle.std.proofs.Common.{◌≡◌, ℕ, zero, suc, ◌+◌, ◌*◌, ◌/◌, ◌^◌, ◌<◌, ◌≤◌, true, false, cond, eqb, ltb, leb, List, [], ◌∷◌, ◌++◌, length, Option, Some, None, refl, sym, ap, ◌∙◌, subst, inl, inr, arith}
 use mathlib.Core.Path.{fun_ext}
-use Rattle.std.specs.Prelude.{slice_index, replicate}
+use Rattle.std.specs.Prelude.{slice_index}
 use Rattle.std.specs.List.{AllByRecursion}
 use Rattle.std.specs.Option.{option_map}
-use Rattle.std.proofs.lemmas.List.{get_or_append_left, get_or-append-add}
-use Rattle.std.proofs.lemmas.Bool.{ne_eqb, le-leb, lt-ltb, lt-leb, and_from, and_left, cond_both}
-use Rattle.std.proofs.lemmas.Option.{none-some}
+use Rattle.std.proofs.lemmas.List.{length-append}
+use Rattle.std.proofs.lemmas.Bool.{le-leb, lt-ltb, lt-leb, and_from, and_left, cond_both}
 use Rattle.byteorder.specs.Endian.{little_bytes}
 use Rattle.mv_base.specs.Bytes.{AreBytes, words}
-use Rattle.mv_base.specs.Memory.{Cell, exec_byte, exec_byte_of, is_writable, cell_is}
+use Rattle.mv_base.specs.Words.{words-append}
+use Rattle.mv_base.specs.declared.range.RunPlace.{RunPlace}
+use Rattle.mv_base.specs.Memory.{Cell, exec_byte_of, cell_is}
 use Rattle.mv_base.specs.Table.{entry_or, flat_entry, group_count, paged_entry}
 use Rattle.elf32_read.specs.declared.run.Run.{Run}
 use Rattle.elf32_read.specs.Load.{load}
@@ -21,26 +22,31 @@ use Rattle.map_table.specs.Paged.{places_from, table_words, table_bytes, IsPaged
 use Rattle.map_table.specs.laws.Reading.{Laws, made_laws}
 use Rattle.lookup_stub.specs.Stub.{stub, stub_size}
 use Rattle.lookup_stub.specs.Finding as finding
+use Rattle.counter_hooks.specs.declared.rules.Rule.{Rule}
+use Rattle.counter_hooks.specs.Rules.{picked}
 use Rattle.superset.specs.declared.site.Site.{Site}
 use Rattle.simulation_laws.specs.declared.anchors.Anchors.{Anchors}
-use Rattle.simulation_laws.specs.Pieces.{piece, successor}
-use Rattle.simulation_laws.specs.Relocated.{StandAt, PieceAt, piece_there, anchors_of}
+use Rattle.simulation_laws.specs.Pieces.{piece, successor, counter_in, counter_code}
+use Rattle.simulation_laws.specs.Relocated.{StandAt, PieceAt, piece_there, piece_place, counter_there, counter_of, counted, anchors_of}
 use Rattle.step_laws.specs.Jumps.{jump_bytes}
-use Rattle.elf32_write.specs.Parts.{Stands, stands_whole, stands_left}
+use Rattle.elf32_write.specs.File.{table_of}
+use Rattle.elf32_write.specs.Parts.{Stands, stands_whole, stands_left, stands_first, stands_second}
 use Rattle.elf32_write.specs.Written.{up-le}
 use Rattle.image_layout.specs.InPlace.{IsInPlace}
 use Rattle.image_layout.specs.Layout.{plan}
 use Rattle.image_layout.specs.Layout as layout
-use Rattle.image_layout.specs.Pieces.{piece_len, chain_code}
+use Rattle.image_layout.specs.Pieces.{piece_len, counter_len, site_len, counters, chain_code}
 use Rattle.image_layout.specs.Sites.{IsWhole}
 use Rattle.image_layout.specs.laws.Sizes.{piece_sized}
 use Rattle.image_layout.specs.laws.SiteFacts.{is_site_at, IsListed, site_there}
 use Rattle.image_layout.specs.laws.LayFacts.{AreLaid, HasBase, made, entry_most}
+use Rattle.image_layout.specs.laws.LayFacts as lay_facts
 use Rattle.image_layout.specs.laws.InPlacing.{no_entry, entry_inside, entries_differ, in_place}
 use Rattle.mv_rewrite.specs.Sites.{site_at, code_in, sites}
-use Rattle.mv_rewrite.specs.Layout.{moved, code, chains, code_len, table_len, size, table_from, private_from, pairs_at, runs_at, anchors_at, plan_at}
+use Rattle.mv_rewrite.specs.Layout.{moved, code, chains, counted_at, code_len, table_len, size, table_from, private_from, pairs_at, runs_at, anchors_at, plan_at}
 use Rattle.mv_rewrite.proofs.LayoutFacts.{same_code}
-use Rattle.mv_rewrite.proofs.Planned.{length-code, length-table}
+use Rattle.mv_rewrite.proofs.Planned.{private_size, length-code, length-table_of}
+use Rattle.mv_rewrite.proofs.Longer.{page_front, entry_front}
 
 -- words are bytes
 word_bytes : (n k : ℕ) → slice_index (little_bytes 4 n) k < 256
@@ -59,62 +65,67 @@ words_bytes (n ∷ ns) (suc (suc zero)) = word_bytes n 2
 words_bytes (n ∷ ns) (suc (suc (suc zero))) = word_bytes n 3
 words_bytes (n ∷ ns) (suc (suc (suc (suc k)))) = words_bytes ns k
 
--- what the table has for runs is what a lookup of them reads
-looked_up : (bytes : List ℕ) (lo from dir : ℕ) (rs : List Run) → lo + length bytes < 2 ^ 32 → AreApart from rs → AllByRecursion (IsPaged bytes lo) (places_from dir rs) → AllByRecursion (finding.IsPlaced 2 bytes lo) (places_from dir rs)
+-- what the table has for runs is what a lookup of them reads, with what stands behind it too
+looked_up : (bytes more : List ℕ) (lo from dir : ℕ) (rs : List Run) → lo + length bytes < 2 ^ 32 → AreApart from rs → AllByRecursion (IsPaged bytes lo) (places_from dir rs) → AllByRecursion (finding.IsPlaced 2 (bytes ++ more) lo) (places_from dir rs)
 unfolding places_from
-looked_up bytes lo from dir [] end apart all = tt
-looked_up bytes lo from dir (r ∷ rs) end apart all =
-    let one = all.0 in (
+looked_up bytes more lo from dir [] end apart all = tt
+looked_up bytes more lo from dir (r ∷ rs) end apart all =
+    let one = all.0 in
+    let place : RunPlace = record { lo = r.lo; len = length r.bytes; dir = dir } in
+    let longer = length-append bytes more in (
       record {
         low = omega (arith, apart.2);
         dir = omega (arith, one.high, end);
         words = λ k lt.
             let below : k / 1024 < group_count (length r.bytes) = omega (arith, lt) in
+            let named = page_front bytes more lo place one (k / 1024) below in
+            let low = one.page_low (k / 1024) below in
             let high = one.page_high (k / 1024) below in (
-              record { low = one.low; high = omega (arith, one.high, below) },
-              record { low = one.page_low (k / 1024) below; high = omega (arith, high) },
+              record { low = one.low; high = omega (arith, one.high, below, longer) },
+              record { low = omega (arith, named, low); high = omega (arith, named, high, longer) },
             );
       },
-      looked_up bytes lo (r.lo + length r.bytes + 1) (dir + 4 * group_count (length r.bytes)) rs end apart.3 all.1,
+      looked_up bytes more lo (r.lo + length r.bytes + 1) (dir + 4 * group_count (length r.bytes)) rs end apart.3 all.1,
     )
 
 -- the plan's code and table are loaded where the frame says
-pub record IsPlaced (b : List ℕ) (base : ℕ) (x : List ℕ) (f : Frame) : Type 0 where
+pub record IsPlaced (b : List ℕ) (rule : Rule) (base : ℕ) (x : List ℕ) (f : Frame) : Type 0 where
   pub form_is : f.form ≡ 2
   pub code_lo : f.code.lo ≡ base
-  pub table_is : frame_table f ≡ (plan_at b base).table
-  pub table_lo : f.table.lo ≡ table_from b base
-  pub runs_are : f.runs ≡ runs_at b base
-  pub counters : f.counters ≡ 0
-  pub private : f.private ≡ private_from b base
+  pub table_is : frame_table f ≡ table_of (plan_at b rule base)
+  pub table_lo : f.table.lo ≡ table_from b rule base
+  pub runs_are : f.runs ≡ runs_at b rule base
+  pub private : f.private ≡ private_from b rule base
+  pub first_counter : f.first_counter ≡ private_from b rule base + 64
+  pub counted_are : counted f ≡ counted_at b rule
   pub added_lo : f.added.lo ≡ base
-  pub added_len : f.added.len ≡ size b
-  pub cells : (k : ℕ) → k < length (plan_at b base).code → load x (base + k) ≡ Some (record { byte = slice_index (plan_at b base).code k; write = false; exec = true })
-  pub words : (k : ℕ) → k < length (plan_at b base).table → load x (table_from b base + k) ≡ Some (record { byte = slice_index (plan_at b base).table k; write = false; exec = false })
+  pub added_len : f.added.len ≡ size b rule
+  pub cells : (k : ℕ) → k < length (plan_at b rule base).code → load x (base + k) ≡ Some (record { byte = slice_index (plan_at b rule base).code k; write = false; exec = true })
+  pub words : (k : ℕ) → k < length (table_of (plan_at b rule base)) → load x (table_from b rule base + k) ≡ Some (record { byte = slice_index (table_of (plan_at b rule base)) k; write = false; exec = false })
   pub positive : 0 < base
-  pub low : base + size b ≤ 0xB0000000
+  pub low : base + size b rule ≤ 0xB0000000
   -- the input's executable bytes are those of its runs
   pub code : (a : ℕ) → code_in b a ≡ code_of (runs_of b) a
   pub laid : AreLaid (runs_of b) (sites b) (chains b)
-  pub based : HasBase (runs_of b) (sites b) (chains b) laid base
+  pub based : HasBase rule (runs_of b) (sites b) (chains b) laid base
 
-module _ (b : List ℕ) (base : ℕ) (x : List ℕ) (f : Frame) (h : IsPlaced b base x f) where
+module _ (b : List ℕ) (rule : Rule) (base : ℕ) (x : List ℕ) (f : Frame) (h : IsPlaced b rule base x f) where
   abbrev move : ℕ → ℕ
-  move = moved (pairs_at b base)
+  move = moved (pairs_at b rule base)
 
   -- the code's bytes, by address
   same_bytes : code_in b ≡ code_of (runs_of b)
   same_bytes = same_code (code_in b) (code_of (runs_of b)) h.code
 
-  size-code : up (code_len b) + up (table_len b) + 64 ≤ size b
+  size-code : up (code_len b rule) + up (table_len b rule) + 64 ≤ size b rule
   unfolding layout.size
-  size-code = omega (arith, up-le (private_len 0))
+  size-code = omega (arith, up-le (private_size b rule))
 
-  made_at : IsMade (record { runs = runs_of b; pairs = pairs_at b base; lo = table_from b base })
-  made_at = made (runs_of b) (sites b) (chains b) h.laid base h.based
+  made_at : IsMade (record { runs = runs_of b; pairs = pairs_at b rule base; lo = table_from b rule base })
+  made_at = made rule (runs_of b) (sites b) (chains b) h.laid base h.based
 
-  entry-bound : (a : ℕ) → entry_in (pairs_at b base) a < 2 ^ 32
-  entry-bound a = omega (arith, entry_most (runs_of b) (sites b) (chains b) h.laid base a, up-le (code_len b), size-code, h.low)
+  entry-bound : (a : ℕ) → entry_in (pairs_at b rule base) a < 2 ^ 32
+  entry-bound a = omega (arith, entry_most rule (runs_of b) (sites b) (chains b) h.laid base a, up-le (code_len b rule), size-code, h.low)
 
   -- the site at an address is one of the list
   in_code : (a : ℕ) (o : Option Site) → site_at (code_in b) a ≡ o → site_at (code_of (runs_of b)) a ≡ o
@@ -123,28 +134,29 @@ module _ (b : List ℕ) (base : ℕ) (x : List ℕ) (f : Frame) (h : IsPlaced b 
   site_listed : (a : ℕ) (s : Site) → site_at (code_in b) a ≡ Some s → IsListed (sites b) s
   site_listed a s e = site_there (runs_of b) (sites b) h.laid.sites a s (in_code a (Some s) e)
 
-  entry-none : (a : ℕ) → site_at (code_in b) a ≡ None → entry_in (pairs_at b base) a ≡ 0
-  entry-none a e = no_entry (runs_of b) (sites b) (chains b) h.laid base h.based a (in_code a None e)
+  entry-none : (a : ℕ) → site_at (code_in b) a ≡ None → entry_in (pairs_at b rule base) a ≡ 0
+  entry-none a e = no_entry rule (runs_of b) (sites b) (chains b) h.laid base h.based a (in_code a None e)
 
-  laws : Laws (record { runs = runs_of b; pairs = pairs_at b base; lo = table_from b base }) (plan_at b base).table
+  laws : Laws (record { runs = runs_of b; pairs = pairs_at b rule base; lo = table_from b rule base }) (plan_at b rule base).table
   unfolding plan
-  laws = made_laws (record { runs = runs_of b; pairs = pairs_at b base; lo = table_from b base }) made_at
+  laws = made_laws (record { runs = runs_of b; pairs = pairs_at b rule base; lo = table_from b rule base }) made_at
 
   -- the frame's entries are the pairs'
-  pub entries : (a : ℕ) → frame_entry f a ≡ entry_in (pairs_at b base) a
+  pub entries : (a : ℕ) → frame_entry f a ≡ entry_in (pairs_at b rule base) a
   unfolding frame_entry
   entries a =
       ap (λ n. cond (eqb n 1) (flat_entry (frame_table f) f.table.lo f.runs a) (paged_entry (frame_table f) f.table.lo f.runs a)) h.form_is
       ∙ (ap (λ (t : List ℕ). paged_entry t f.table.lo f.runs a) h.table_is
-      ∙ (ap (λ n. paged_entry (plan_at b base).table n f.runs a) h.table_lo
-      ∙ (ap (λ rs. paged_entry (plan_at b base).table (table_from b base) rs a) h.runs_are
-      ∙ laws.reads_are a)))
+      ∙ (ap (λ n. paged_entry (table_of (plan_at b rule base)) n f.runs a) h.table_lo
+      ∙ (ap (λ rs. paged_entry (table_of (plan_at b rule base)) (table_from b rule base) rs a) h.runs_are
+      ∙ (entry_front (plan_at b rule base).table (words (plan_at b rule base).counted) (table_from b rule base) (runs_at b rule base) laws.inside_are a
+      ∙ laws.reads_are a))))
 
   -- an address that is no site has none
   pub none : (a : ℕ) → site_at (code_in b) a ≡ None → frame_entry f a ≡ 0
   none a e = entries a ∙ entry-none a e
 
-  pub map_is : (a : ℕ) → frame_map f a ≡ moved (pairs_at b base) a
+  pub map_is : (a : ℕ) → frame_map f a ≡ moved (pairs_at b rule base) a
   map_is a = ap (λ n. entry_or n a) (entries a)
 
   pub others : (a : ℕ) → site_at (code_in b) a ≡ None → frame_map f a ≡ a
@@ -152,101 +164,122 @@ module _ (b : List ℕ) (base : ℕ) (x : List ℕ) (f : Frame) (h : IsPlaced b 
 
   pub mapped : (a : ℕ) → a < 2 ^ 32 → frame_map f a < 2 ^ 32
   mapped a lt =
-      subst (λ n. n < 2 ^ 32) (sym (map_is a)) (cond_both (eqb (entry_in (pairs_at b base) a) 0) a (entry_in (pairs_at b base) a) (λ n. n < 2 ^ 32) (λ _. lt) (λ _. entry-bound a))
+      subst (λ n. n < 2 ^ 32) (sym (map_is a)) (cond_both (eqb (entry_in (pairs_at b rule base) a) 0) a (entry_in (pairs_at b rule base) a) (λ n. n < 2 ^ 32) (λ _. lt) (λ _. entry-bound a))
 
   -- an address of the code and the table is added and not private
-  in_added : (a : ℕ) → base ≤ a → a < base + up (code_len b) + up (table_len b) → is_added f a ≡ true
+  in_added : (a : ℕ) → base ≤ a → a < base + up (code_len b rule) + up (table_len b rule) → is_added f a ≡ true
   in_added a low high =
       and_from (leb f.added.lo a) (ltb a (f.added.lo + f.added.len)) (le-leb f.added.lo a (omega (arith, low, h.added_lo)))
       (lt-ltb a (f.added.lo + f.added.len) (omega (arith, high, h.added_lo, h.added_len, size-code)))
 
-  below_private : (a : ℕ) → a < base + up (code_len b) + up (table_len b) → is_private f a ≡ false
+  below_private : (a : ℕ) → a < base + up (code_len b rule) + up (table_len b rule) → is_private f a ≡ false
   below_private a high =
       and_left (leb f.private a) (ltb a (f.private + private_len f.counters)) (lt-leb f.private a (omega (arith, high, h.private)))
 
   -- bytes that stand in the code stand where it is loaded
-  code_stands : (off : ℕ) (bytes : List ℕ) → Stands (plan_at b base).code off bytes → StandAt x f (f.code.lo + off) bytes
+  code_stands : (off : ℕ) (bytes : List ℕ) → Stands (plan_at b rule base).code off bytes → StandAt x f (f.code.lo + off) bytes
   code_stands off bytes s =
       let place : (k : ℕ) → f.code.lo + off + k ≡ base + (off + k) = λ k. omega (arith, h.code_lo) in
-      let room : off + length bytes ≤ code_len b = omega (arith, s.room, length-code b base h.laid) in
+      let room : off + length bytes ≤ code_len b rule = omega (arith, s.room, length-code b rule base h.laid) in
       let cell : (k : ℕ) → k < length bytes → load x (f.code.lo + off + k) ≡ Some (record { byte = slice_index bytes k; write = false; exec = true }) =
       λ k lt. ap (load x) (place k) ∙ (h.cells (off + k) (omega (arith, lt, s.room)) ∙ ap (λ n. Some (record { byte = n; write = false; exec = true })) (s.byte k lt)) in
       record {
         byte = λ k lt. ap exec_byte_of (cell k lt);
         fixed = λ k lt. ap (cell_is (λ c. c.write)) (cell k lt);
-        added = λ k lt. in_added (f.code.lo + off + k) (omega (arith, h.code_lo)) (omega (arith, h.code_lo, lt, room, up-le (code_len b)));
-        public = λ k lt. below_private (f.code.lo + off + k) (omega (arith, h.code_lo, lt, room, up-le (code_len b)));
+        added = λ k lt. in_added (f.code.lo + off + k) (omega (arith, h.code_lo)) (omega (arith, h.code_lo, lt, room, up-le (code_len b rule)));
+        public = λ k lt. below_private (f.code.lo + off + k) (omega (arith, h.code_lo, lt, room, up-le (code_len b rule)));
       }
 
   -- the code begins with the stub
-  stub_first : Stands (plan_at b base).code 0 (stub 2 (runs_at b base) (private_from b base))
+  stub_first : Stands (plan_at b rule base).code 0 (stub 2 (runs_at b rule base) (private_from b rule base))
   unfolding plan layout.code
   stub_first =
-      let front = stub 2 (runs_at b base) (private_from b base) in
-      stands_left front (chain_code (anchors_at b base) move (code_of (runs_of b)) (sites b) (base + stub_size 2 (length (runs_at b base))) (chains b)) front 0 (stands_whole front)
+      let front = stub 2 (runs_at b rule base) (private_from b rule base) in
+      stands_left front (chain_code rule (anchors_at b rule base) move (code_of (runs_of b)) (sites b) (base + stub_size 2 (length (runs_at b rule base))) (chains b)) front 0 (stands_whole front)
 
   pub stub_stands : StandAt x f f.code.lo (stub f.form f.runs f.private)
   stub_stands =
       let start : f.code.lo + 0 ≡ f.code.lo = omega arith in
-      let e1 : stub 2 (runs_at b base) (private_from b base) ≡ stub f.form f.runs f.private =
-      ap (λ n. stub n (runs_at b base) (private_from b base)) (sym h.form_is) ∙ (ap (λ rs. stub f.form rs (private_from b base)) (sym h.runs_are) ∙ ap (stub f.form f.runs) (sym h.private)) in
-      subst (λ n. StandAt x f n (stub f.form f.runs f.private)) start (subst (λ (l : List ℕ). StandAt x f (f.code.lo + 0) l) e1 (code_stands 0 (stub 2 (runs_at b base) (private_from b base)) stub_first))
+      let e1 : stub 2 (runs_at b rule base) (private_from b rule base) ≡ stub f.form f.runs f.private =
+      ap (λ n. stub n (runs_at b rule base) (private_from b rule base)) (sym h.form_is) ∙ (ap (λ rs. stub f.form rs (private_from b rule base)) (sym h.runs_are) ∙ ap (stub f.form f.runs) (sym h.private)) in
+      subst (λ n. StandAt x f n (stub f.form f.runs f.private)) start (subst (λ (l : List ℕ). StandAt x f (f.code.lo + 0) l) e1 (code_stands 0 (stub 2 (runs_at b rule base) (private_from b rule base)) stub_first))
 
-  pub anchors_are : anchors_at b base ≡ anchors_of f
+  pub anchors_are : anchors_at b rule base ≡ anchors_of f
   anchors_are = λ i. record { stub = sym h.code_lo i; private = sym h.private i }
 
   -- a site's entry isn't 0 and lies in the code, and no two have one
-  pub inside : (a : ℕ) (s : Site) → site_at (code_in b) a ≡ Some s → (0 < entry_in (pairs_at b base) a) × (base ≤ entry_in (pairs_at b base) a) × (entry_in (pairs_at b base) a < base + code_len b)
+  pub inside : (a : ℕ) (s : Site) → site_at (code_in b) a ≡ Some s → (0 < entry_in (pairs_at b rule base) a) × (base ≤ entry_in (pairs_at b rule base) a) × (entry_in (pairs_at b rule base) a < base + code_len b rule)
   inside a s e =
       let q = site_listed a s e in
-      subst (λ n. (0 < entry_in (pairs_at b base) n) × (base ≤ entry_in (pairs_at b base) n) × (entry_in (pairs_at b base) n < base + code_len b)) (is_site_at (code_in b) a s e).here
-      (entry_inside (runs_of b) (sites b) (chains b) h.laid base h.based q.index s q.is)
+      subst (λ n. (0 < entry_in (pairs_at b rule base) n) × (base ≤ entry_in (pairs_at b rule base) n) × (entry_in (pairs_at b rule base) n < base + code_len b rule)) (is_site_at (code_in b) a s e).here
+      (entry_inside rule (runs_of b) (sites b) (chains b) h.laid base h.based q.index s q.is)
 
-  pub differ : (a c : ℕ) (s q : Site) → site_at (code_in b) a ≡ Some s → site_at (code_in b) c ≡ Some q → entry_in (pairs_at b base) a ≡ entry_in (pairs_at b base) c → a ≡ c
+  pub differ : (a c : ℕ) (s q : Site) → site_at (code_in b) a ≡ Some s → site_at (code_in b) c ≡ Some q → entry_in (pairs_at b rule base) a ≡ entry_in (pairs_at b rule base) c → a ≡ c
   differ a c s q e g same =
       let k = site_listed a s e in
       let j = site_listed c q g in
       let here_s = (is_site_at (code_in b) a s e).here in
       let here_q = (is_site_at (code_in b) c q g).here in
-      sym here_s ∙ (entries_differ (runs_of b) (sites b) (chains b) h.laid base h.based k.index j.index s q k.is j.is
-      (ap (entry_in (pairs_at b base)) here_s ∙ (same ∙ sym (ap (entry_in (pairs_at b base)) here_q))) ∙ here_q)
+      sym here_s ∙ (entries_differ rule (runs_of b) (sites b) (chains b) h.laid base h.based k.index j.index s q k.is j.is
+      (ap (entry_in (pairs_at b rule base)) here_s ∙ (same ∙ sym (ap (entry_in (pairs_at b rule base)) here_q))) ∙ here_q)
+
+  -- the frame's counters are the plan's
+  counters_are : counter_of f ≡ counters rule (anchors_at b rule base) (sites b)
+  counters_are = fun_ext (λ a. ap (λ (n : ℕ). counter_in n (counted f) a) h.first_counter ∙ ap (λ (l : List ℕ). counter_in (private_from b rule base + 64) l a) h.counted_are)
 
   -- the site's piece is in place by the frame's own map
-  in_frame : (a : ℕ) (s : Site) → site_at (code_in b) a ≡ Some s → IsInPlace (anchors_of f) (frame_map f) (code_in b) (plan_at b base).code s
+  in_frame : (a : ℕ) (s : Site) → site_at (code_in b) a ≡ Some s → IsInPlace rule (anchors_of f) (frame_map f) (code_in b) (counter_of f) (plan_at b rule base).code s
   unfolding plan
   in_frame a s e =
       let q = site_listed a s e in
-      let code : List ℕ = (plan_at b base).code in
+      let code : List ℕ = (plan_at b rule base).code in
       let moves : frame_map f ≡ move = fun_ext map_is in
-      subst (λ (n : Anchors). IsInPlace n (frame_map f) (code_in b) code s) anchors_are
-      (subst (λ (m : ℕ → ℕ). IsInPlace (anchors_at b base) m (code_in b) code s) (sym moves)
-      (subst (λ (c : ℕ → Option ℕ). IsInPlace (anchors_at b base) move c code s) (sym same_bytes)
-      (in_place (runs_of b) (sites b) (chains b) h.laid base h.based q.index s q.is)))
+      subst (λ (p : ℕ → Option ℕ). IsInPlace rule (anchors_of f) (frame_map f) (code_in b) p code s) (sym counters_are)
+      (subst (λ (n : Anchors). IsInPlace rule n (frame_map f) (code_in b) (counters rule (anchors_at b rule base) (sites b)) code s) anchors_are
+      (subst (λ (m : ℕ → ℕ). IsInPlace rule (anchors_at b rule base) m (code_in b) (counters rule (anchors_at b rule base) (sites b)) code s) (sym moves)
+      (subst (λ (c : ℕ → Option ℕ). IsInPlace rule (anchors_at b rule base) move c (counters rule (anchors_at b rule base) (sites b)) code s) (sym same_bytes)
+      (in_place rule (runs_of b) (sites b) (chains b) h.laid base h.based q.index s q.is))))
 
-  -- what is in place stands where it is loaded
-  piece_at : (s : Site) → IsWhole (code_in b) s → IsInPlace (anchors_of f) (frame_map f) (code_in b) (plan_at b base).code s → PieceAt b x f s
-  piece_at s whole w =
-      let p : ℕ → List ℕ = λ n. piece (anchors_of f) (frame_map f) (code_in b) n s in
+  -- what is in place stands where it is loaded: the counter, the piece, and what leads on
+  piece_at : (s : Site) → length (counter_there f s) ≡ counter_len (picked rule s) → IsWhole (code_in b) s → IsInPlace rule (anchors_of f) (frame_map f) (code_in b) (counter_of f) (plan_at b rule base).code s → PieceAt b x f s
+  piece_at s counter whole w =
+      let front = counter_there f s in
+      let n = length front in
+      let p : ℕ → List ℕ = λ at. piece (anchors_of f) (frame_map f) (code_in b) at s in
       let next = frame_map f (successor s) in
-      let len : length (piece_there b f s) ≡ piece_len s = piece_sized (anchors_of f) (frame_map f) (code_in b) (frame_map f s.at) s whole in
-      let behind : f.code.lo + w.off + piece_len s ≡ frame_map f s.at + length (piece_there b f s) = omega (arith, w.entry, len) in
-      let there : f.code.lo + (w.off + piece_len s) ≡ frame_map f s.at + length (piece_there b f s) = omega (arith, w.entry, len) in
+      let here : f.code.lo + w.off ≡ frame_map f s.at = sym w.entry in
+      let behind : f.code.lo + w.off + n ≡ piece_place f s = ap (λ (at : ℕ). at + n) here in
+      let own = p (f.code.lo + w.off + n) in
+      let code = (plan_at b rule base).code in
+      let along : f.code.lo + (w.off + n) ≡ f.code.lo + w.off + n = omega arith in
+      let len : length (piece_there b f s) ≡ piece_len s = piece_sized (anchors_of f) (frame_map f) (code_in b) (piece_place f s) s whole in
+      let end : f.code.lo + w.off + site_len rule s ≡ piece_place f s + length (piece_there b f s) = omega (arith, behind, len, counter) in
+      let there : f.code.lo + (w.off + site_len rule s) ≡ piece_place f s + length (piece_there b f s) = omega (arith, behind, len, counter) in
       record {
-        stands = subst (λ n. StandAt x f n (p n)) (sym w.entry) (code_stands w.off (p (f.code.lo + w.off)) w.stands);
+        counts = subst (λ at. StandAt x f at front) here (code_stands w.off front (stands_first code front own w.off w.stands));
+        stands = subst (λ at. StandAt x f at (p at)) behind (subst (λ at. StandAt x f at own) along (code_stands (w.off + n) own (stands_second code front own w.off n refl w.stands)));
         leads = λ on. elim (w.leads on) [
-          | inl e ↦ inl (e ∙ behind)
-          | inr s2 ↦ inr (subst (λ n. StandAt x f (frame_map f s.at + length (piece_there b f s)) (jump_bytes n next)) behind
-              (subst (λ n. StandAt x f n (jump_bytes (f.code.lo + w.off + piece_len s) next)) there (code_stands (w.off + piece_len s) (jump_bytes (f.code.lo + w.off + piece_len s) next) s2)))
+          | inl e ↦ inl (e ∙ end)
+          | inr s2 ↦ inr (subst (λ at. StandAt x f (piece_place f s + length (piece_there b f s)) (jump_bytes at next)) end
+              (subst (λ at. StandAt x f at (jump_bytes (f.code.lo + w.off + site_len rule s) next)) there (code_stands (w.off + site_len rule s) (jump_bytes (f.code.lo + w.off + site_len rule s) next) s2)))
         ];
       }
 
+  -- a site's counter has its length
+  counter_sized_at : (a : ℕ) (s : Site) → site_at (code_in b) a ≡ Some s → length (counter_there f s) ≡ counter_len (picked rule s)
+  counter_sized_at a s e =
+      let q = site_listed a s e in
+      ap (λ (p : ℕ → Option ℕ). length (counter_code (anchors_of f) (p s.at))) counters_are
+      ∙ (ap (λ (n : Anchors). length (counter_code (anchors_of f) (counters rule n (sites b) s.at))) anchors_are
+      ∙ lay_facts.counters_are rule (runs_of b) (sites b) (chains b) h.laid (anchors_of f) q.index s q.is)
+
   pub pieces : (a : ℕ) (s : Site) → site_at (code_in b) a ≡ Some s → PieceAt b x f s
-  pieces a s e = piece_at s (is_site_at (code_in b) a s e).whole (in_frame a s e)
+  pieces a s e = piece_at s (counter_sized_at a s e) (is_site_at (code_in b) a s e).whole (in_frame a s e)
 
   -- ---- the table
 
-  table-room : length (frame_table f) ≤ up (table_len b)
-  table-room = omega (arith, ap length h.table_is, length-table b base, up-le (table_len b))
+  table-room : length (frame_table f) ≤ up (table_len b rule)
+  table-room = omega (arith, ap length h.table_is, length-table_of b rule base, up-le (table_len b rule))
 
   pub table_added : (k : ℕ) → k < length (frame_table f) → (is_added f (f.table.lo + k) ≡ true) × (is_private f (f.table.lo + k) ≡ false)
   table_added k lt = (
@@ -256,7 +289,10 @@ module _ (b : List ℕ) (base : ℕ) (x : List ℕ) (f : Frame) (h : IsPlaced b 
 
   pub table_are_bytes : AreBytes (frame_table f)
   unfolding plan table_bytes
-  table_are_bytes = subst (λ (t : List ℕ). AreBytes t) (sym h.table_is) (words_bytes (table_words (runs_of b) (pairs_at b base) (table_from b base)))
+  table_are_bytes =
+      let ws = table_words (runs_of b) (pairs_at b rule base) (table_from b rule base) in
+      let list = counted_at b rule in
+      subst (λ (t : List ℕ). AreBytes t) (words-append ws list ∙ sym h.table_is) (words_bytes (ws ++ list))
 
   pub table_holds : (k : ℕ) → k < length (frame_table f) → option_map (λ c. c.byte) (load x (f.table.lo + k)) ≡ Some (slice_index (frame_table f) k)
   table_holds k lt =
@@ -265,13 +301,15 @@ module _ (b : List ℕ) (base : ℕ) (x : List ℕ) (f : Frame) (h : IsPlaced b 
       ∙ (ap byte (h.words k (omega (arith, lt, ap length h.table_is))) ∙ ap (λ (t : List ℕ). Some (slice_index t k)) (sym h.table_is))
 
   pub table_low : f.table.lo + length (frame_table f) < 2 ^ 32
-  table_low = omega (arith, h.table_lo, ap length h.table_is, length-table b base, up-le (table_len b), size-code, h.low)
+  table_low = omega (arith, h.table_lo, table-room, size-code, h.low)
 
   pub placed : AllByRecursion (finding.IsPlaced f.form (frame_table f) f.table.lo) f.runs
   placed =
-      let end : table_from b base + length (plan_at b base).table < 2 ^ 32 = omega (arith, length-table b base, up-le (table_len b), size-code, h.low) in
-      let all = looked_up (plan_at b base).table (table_from b base) 0 (table_from b base + 4096) (runs_of b) end h.laid.runs.apart laws.inside_are in
+      let t = (plan_at b rule base).table in
+      let list = words (plan_at b rule base).counted in
+      let end : table_from b rule base + length t < 2 ^ 32 = omega (arith, length-append t list, length-table_of b rule base, up-le (table_len b rule), size-code, h.low) in
+      let all = looked_up t list (table_from b rule base) 0 (table_from b rule base + 4096) (runs_of b) end h.laid.runs.apart laws.inside_are in
       subst (λ n. AllByRecursion (finding.IsPlaced n (frame_table f) f.table.lo) f.runs) (sym h.form_is)
       (subst (λ rs. AllByRecursion (finding.IsPlaced 2 (frame_table f) f.table.lo) rs) (sym h.runs_are)
-      (subst (λ n. AllByRecursion (finding.IsPlaced 2 (frame_table f) n) (runs_at b base)) (sym h.table_lo)
-      (subst (λ (t : List ℕ). AllByRecursion (finding.IsPlaced 2 t (table_from b base)) (runs_at b base)) (sym h.table_is) all)))
+      (subst (λ n. AllByRecursion (finding.IsPlaced 2 (frame_table f) n) (runs_at b rule base)) (sym h.table_lo)
+      (subst (λ (t : List ℕ). AllByRecursion (finding.IsPlaced 2 t (table_from b rule base)) (runs_at b rule base)) (sym h.table_is) all)))

@@ -1,26 +1,21 @@
 -- The plan of any image: its block, and the file that it gives.
-use Rattle.std.proofs.Common.{lit<, ◌≡◌, ℕ, zero, suc, ◌+◌, ◌*◌, ◌/◌, ◌%◌, ◌^◌, ◌<◌, ◌≤◌, Bool, true, false, not, cond, eqb, leb, ltb, ◌&&◌, List, [], ◌∷◌, ◌++◌, length, map, Option, Some, None, refl, sym, ap, ◌∙◌, subst, inl, inr, arith}
-use Rattle.std.specs.List.{list_any, list_all, filter_map, cons_option, sum_by, range_with_len, AllByRecursion}
-use Rattle.std.specs.Option.{option_map}
+use Rattle.std.proofs.Common.{lit<, ◌≡◌, ℕ, zero, suc, ◌+◌, ◌*◌, ◌/◌, ◌%◌, ◌^◌, ◌<◌, ◌≤◌, Bool, true, false, not, cond, eqb, leb, ltb, ◌&&◌, List, [], ◌∷◌, ◌++◌, length, map, Some, None, refl, sym, ap, ◌∙◌, subst, inl, inr, arith}
+use Rattle.std.specs.List.{list_any, list_all, filter_map, cons_option, range_with_len, AllByRecursion}
 use Rattle.std.proofs.lemmas.List.{length-append, length-map}
 use Rattle.std.proofs.lemmas.List.FromFn.{length-range_with_len}
-use Rattle.std.proofs.lemmas.List.Sums.{sum_by-cons}
 use Rattle.std.proofs.lemmas.Bool.{true≢false, cases_Bool, leb-true, ltb-false, and_parts, or_cases, or_left, or_right, cond_both}
-use Rattle.std.proofs.lemmas.Option.{none-some, same_Some}
 use Rattle.mv_base.specs.Bytes.{AreBytes, words}
 use Rattle.mv_base.specs.declared.range.RunPlace.{RunPlace}
 use Rattle.elf32_read.specs.declared.image.Phdr.{Phdr}
 use Rattle.elf32_read.specs.declared.image.Segment.{Segment}
-use Rattle.elf32_read.specs.declared.run.Run.{Run}
 use Rattle.elf32_read.specs.Fields.{header_at, header_offset, header_count, headers, entry_at, is_load, maps, has_write, has_exec, segment_of, segments}
 use Rattle.elf32_read.specs.Faults.{or_else, fault_if, head_fault, headers_fault, load_refusal}
 use Rattle.elf32_read.specs.declared.fault.ImageFault.TheVariants.{ShortHeader, NoLoad}
 use Rattle.elf32_read.specs.Runs.{runs_of, code_of}
-use Rattle.elf32_write.specs.Format.{up}
+use Rattle.elf32_write.specs.Format.{up, private_len}
+use Rattle.counter_hooks.specs.declared.rules.Rule.{Rule}
 use Rattle.elf32_write.specs.File.{head_len, code_place, table_of, kept_header, added_header, with_added, new_headers, file_of}
 use Rattle.mv_base.specs.Words.{length-words}
-use Rattle.mv_base.specs.Table.{group_count}
-use Rattle.superset.specs.Sites.{addresses, run_addresses}
 use Rattle.map_table.specs.Pairs.{entry_in}
 use Rattle.map_table.specs.Paged.{table_size, IsMade}
 use Rattle.map_table.specs.laws.Reading.{length-table_bytes}
@@ -31,15 +26,15 @@ use Rattle.image_layout.specs.Fit.{is_apart}
 use Rattle.image_layout.specs.Layout.{plan}
 use Rattle.image_layout.specs.Layout as layout
 use Rattle.image_layout.specs.Parts.{parts, placed, entry}
-use Rattle.image_layout.specs.Pieces.{piece_lens, part_bytes, bytes_of, chain_code}
+use Rattle.image_layout.specs.Pieces.{counters, code_lens, part_bytes, bytes_of, chain_code}
 use Rattle.image_layout.specs.laws.Blocks.{HasRoom, room_at, length-run_places}
 use Rattle.image_layout.specs.laws.Placing.{length-code_at}
 use Rattle.image_layout.specs.laws.Sizes.{part_sized}
 use Rattle.image_layout.specs.laws.SiteFacts.{are_whole}
 use Rattle.image_layout.specs.laws.Pairing.{firsts_pairs}
-use Rattle.image_layout.specs.laws.LayFacts.{AreLaid, HasBase, has_base, made, entry_most}
+use Rattle.image_layout.specs.laws.LayFacts.{AreLaid, HasBase, has_base, made, entry_most, counters_are}
 use Rattle.mv_rewrite.specs.Sites.{code_in, sites}
-use Rattle.mv_rewrite.specs.Layout.{moved, code, chains, base_of, size, stub_len, code_len, table_len, table_from, private_from, pairs_at, runs_at, anchors_at, plan_at}
+use Rattle.mv_rewrite.specs.Layout.{moved, code, chains, counted_at, base_of, size, stub_len, code_len, table_len, table_from, private_from, pairs_at, runs_at, anchors_at, plan_at}
 use Rattle.elf32_write.specs.Parts.{IsHeader}
 use Rattle.elf32_write.specs.Written.{IsWritable, IsWritten, written, up-le}
 use Rattle.mv_rewrite.proofs.Fine.{passed, neither}
@@ -47,63 +42,77 @@ use Rattle.mv_rewrite.proofs.NewHeaders.{Block, IsBlock, block_size, code_of_blo
 
 -- ---- lengths of the plan
 
-module _ (b : List ℕ) (base : ℕ) where
+-- how many counters there are, and how many bytes the private area has with them
+abbrev pub count : List ℕ → Rule → ℕ
+count b rule = length (counted_at b rule)
+
+abbrev pub private_size : List ℕ → Rule → ℕ
+private_size b rule = private_len (count b rule)
+
+-- the length of the table without the list
+abbrev pub words_len : List ℕ → ℕ
+words_len b = table_size (runs_of b) (map (λ s. s.at) (sites b))
+
+module _ (b : List ℕ) (rule : Rule) (base : ℕ) where
   -- as many runs have places as there are
-  pub length-runs_at : length (runs_at b base) ≡ length (runs_of b)
-  length-runs_at = length-run_places (table_from b base + 4096) (runs_of b)
+  pub length-runs_at : length (runs_at b rule base) ≡ length (runs_of b)
+  length-runs_at = length-run_places (table_from b rule base + 4096) (runs_of b)
 
-  pub length-stub : length (stub 2 (runs_at b base) (private_from b base)) ≡ stub_len b
-  length-stub = stub_length 2 (runs_at b base) (private_from b base) ∙ ap (stub_size 2) length-runs_at
+  pub length-stub : length (stub 2 (runs_at b rule base) (private_from b rule base)) ≡ stub_len b
+  length-stub = stub_length 2 (runs_at b rule base) (private_from b rule base) ∙ ap (stub_size 2) length-runs_at
 
-  pub length-table : length (plan_at b base).table ≡ table_len b
+  pub length-table : length (plan_at b rule base).table ≡ words_len b
   unfolding plan
   length-table =
-      length-table_bytes (runs_of b) (pairs_at b base) (table_from b base)
-      ∙ ap (table_size (runs_of b)) (firsts_pairs (entry (piece_lens (sites b)) (base + stub_len b) (parts (chains b))) 0 (sites b))
+      length-table_bytes (runs_of b) (pairs_at b rule base) (table_from b rule base)
+      ∙ ap (table_size (runs_of b)) (firsts_pairs (entry (code_lens rule (sites b)) (base + stub_len b) (parts (chains b))) 0 (sites b))
 
-  pub length-counted : length (plan_at b base).counted ≡ 0
+  pub length-counted : length (plan_at b rule base).counted ≡ count b rule
   unfolding plan
   length-counted = refl
 
-  pub length-table_of : length (table_of (plan_at b base)) ≡ table_len b
+  pub length-table_of : length (table_of (plan_at b rule base)) ≡ table_len b rule
   length-table_of =
-      length-append (plan_at b base).table (words (plan_at b base).counted)
-      ∙ (ap (λ n. n + length (words (plan_at b base).counted)) length-table
-      ∙ (ap (λ n. table_len b + n) (length-words (plan_at b base).counted) ∙ omega (arith, length-counted)))
+      length-append (plan_at b rule base).table (words (plan_at b rule base).counted)
+      ∙ (ap (λ n. n + length (words (plan_at b rule base).counted)) length-table
+      ∙ (ap (λ n. words_len b + n) (length-words (plan_at b rule base).counted) ∙ ap (λ n. words_len b + 4 * n) length-counted))
 
-  pub size_is : size b ≡ up (code_len b) + up (table_len b) + 4096
+  pub size_is : size b rule ≡ up (code_len b rule) + up (table_len b rule) + up (private_size b rule)
   unfolding layout.size
   size_is = refl
 
-  pub plan_runs : (plan_at b base).runs ≡ runs_at b base
+  pub plan_runs : (plan_at b rule base).runs ≡ runs_at b rule base
   unfolding plan
   plan_runs = refl
 
 -- ---- what is asked of an image
 
--- a file that is rewritten with its block at this base: it has no fault, and its runs have its executable bytes
-pub record IsInput (b : List ℕ) (base : ℕ) : Type 0 where
+-- a file that is rewritten by a rule with its block at this base: it has no fault, its runs have its executable bytes, and
+-- what is written is bytes
+pub record IsInput (b : List ℕ) (rule : Rule) (base : ℕ) : Type 0 where
   pub bytes : AreBytes b
+  pub bytes_there : AreBytes (file_of b (plan_at b rule base))
   pub small : length b ≤ 67108864
   pub loads : load_refusal b ≡ None
   pub few_headers : header_count b ≤ 61
-  pub base_is : base_of b ≡ Some base
+  pub base_is : base_of b rule ≡ Some base
   pub code : (a : ℕ) → code_in b a ≡ code_of (runs_of b) a
   pub laid : AreLaid (runs_of b) (sites b) (chains b)
 
-pub has_room_at : (b : List ℕ) (base : ℕ) → base_of b ≡ Some base → HasRoom (segments b) (size b) base
+pub has_room_at : (b : List ℕ) (rule : Rule) (base : ℕ) → base_of b rule ≡ Some base → HasRoom (segments b) (size b rule) base
 unfolding base_of
-has_room_at b base e = room_at (segments b) (size b) base e
+has_room_at b rule base e = room_at (segments b) (size b rule) base e
 
 -- the code has its length, since each piece has that of its site
-pub length-code : (b : List ℕ) (base : ℕ) → AreLaid (runs_of b) (sites b) (chains b) → length (plan_at b base).code ≡ code_len b
+pub length-code : (b : List ℕ) (rule : Rule) (base : ℕ) → AreLaid (runs_of b) (sites b) (chains b) → length (plan_at b rule base).code ≡ code_len b rule
 unfolding plan layout.code chain_code
-length-code b base is =
-    let first = base + stub_size 2 (length (runs_at b base)) in
-    let bytes = part_bytes (anchors_at b base) (moved (pairs_at b base)) (code_of (runs_of b)) (sites b) in
-    let sized = part_sized (anchors_at b base) (moved (pairs_at b base)) (code_of (runs_of b)) (sites b) (are_whole (runs_of b) (sites b) is.sites) in
-    let behind = bytes_of bytes (placed (piece_lens (sites b)) first (parts (chains b))) in
-    omega (arith, length-append (stub 2 (runs_at b base) (private_from b base)) behind, length-stub b base, length-code_at (piece_lens (sites b)) bytes sized (parts (chains b)) first)
+length-code b rule base is =
+    let first = base + stub_size 2 (length (runs_at b rule base)) in
+    let place = counters rule (anchors_at b rule base) (sites b) in
+    let bytes = part_bytes (anchors_at b rule base) (moved (pairs_at b rule base)) (code_of (runs_of b)) place (sites b) in
+    let sized = part_sized rule (anchors_at b rule base) (moved (pairs_at b rule base)) (code_of (runs_of b)) place (sites b) (are_whole (runs_of b) (sites b) is.sites) (counters_are rule (runs_of b) (sites b) (chains b) is (anchors_at b rule base)) in
+    let behind = bytes_of bytes (placed (code_lens rule (sites b)) first (parts (chains b))) in
+    omega (arith, length-append (stub 2 (runs_at b rule base) (private_from b rule base)) behind, length-stub b rule base, length-code_at (code_lens rule (sites b)) bytes sized (parts (chains b)) first)
 
 header_fits : (b : List ℕ) (p : ℕ) → AreBytes b → IsHeader (header_at b p)
 unfolding header_at
@@ -189,53 +198,53 @@ apart_headers k (h ∷ hs) e =
           (λ t. absurd (true≢false (sym t ∙ m)), apart_headers k hs e')
     ]
 
-abbrev added_by : ℕ → ℕ → ℕ → ℕ → List Phdr
-added_by place base c t = added_header place base c c 5 ∷ added_header (place + up c) (base + up c) t t 4 ∷ added_header (place + up c + up t) (base + up c + up t) 0 64 6 ∷ []
+abbrev added_by : ℕ → ℕ → ℕ → ℕ → ℕ → List Phdr
+added_by place base c t n = added_header place base c c 5 ∷ added_header (place + up c) (base + up c) t t 4 ∷ added_header (place + up c + up t) (base + up c + up t) 0 n 6 ∷ []
 
-module _ (b : List ℕ) (base : ℕ) (is : IsInput b base) where
-  pub room : HasRoom (segments b) (size b) base
-  room = has_room_at b base is.base_is
+module _ (b : List ℕ) (rule : Rule) (base : ℕ) (is : IsInput b rule base) where
+  pub room : HasRoom (segments b) (size b rule) base
+  room = has_room_at b rule base is.base_is
 
   -- and the parts of the block end below 2^32
-  pub has : HasBase (runs_of b) (sites b) (chains b) is.laid base
+  pub has : HasBase rule (runs_of b) (sites b) (chains b) is.laid base
   unfolding base_of
-  has = has_base (runs_of b) (sites b) (chains b) is.laid (segments b) base is.base_is
+  has = has_base rule (runs_of b) (sites b) (chains b) is.laid (segments b) base is.base_is
 
-  pub made_at : IsMade (record { runs = runs_of b; pairs = pairs_at b base; lo = table_from b base })
-  made_at = made (runs_of b) (sites b) (chains b) is.laid base has
+  pub made_at : IsMade (record { runs = runs_of b; pairs = pairs_at b rule base; lo = table_from b rule base })
+  made_at = made rule (runs_of b) (sites b) (chains b) is.laid base has
 
   -- the block of the plan
   abbrev pub block : Block
-  block = record { page = room.page; base = base; code = code_len b; table = table_len b; private = 64; place = code_place (length b) }
+  block = record { page = room.page; base = base; code = code_len b rule; table = table_len b rule; private = private_size b rule; place = code_place (length b) }
 
-  pub based : (base ≡ 4096 * block.page) × (0x100 ≤ block.page) × (base + size b ≤ 0xB0000000)
+  pub based : (base ≡ 4096 * block.page) × (0x100 ≤ block.page) × (base + size b rule ≤ 0xB0000000)
   based = (room.at, room.from, room.low)
 
-  pub headers_are : new_headers b (plan_at b base) ≡ with_added base (block_headers block) (headers b)
+  pub headers_are : new_headers b (plan_at b rule base) ≡ with_added base (block_headers block) (headers b)
   unfolding plan
   headers_are =
       ap (λ l. with_added base l (headers b))
-      (ap (λ c. added_by (code_place (length b)) base c (length (table_of (plan_at b base)))) (length-code b base is.laid) ∙ ap (λ t. added_by (code_place (length b)) base (code_len b) t) (length-table_of b base))
+      (ap (λ c. added_by (code_place (length b)) base c (length (table_of (plan_at b rule base))) (private_size b rule)) (length-code b rule base is.laid) ∙ ap (λ t. added_by (code_place (length b)) base (code_len b rule) t (private_size b rule)) (length-table_of b rule base))
 
-  pub entry_bound : (a : ℕ) → entry_in (pairs_at b base) a < 2 ^ 32
-  entry_bound a = omega (arith, entry_most (runs_of b) (sites b) (chains b) is.laid base a, room.low, size_is b base, up-le (code_len b))
+  pub entry_bound : (a : ℕ) → entry_in (pairs_at b rule base) a < 2 ^ 32
+  entry_bound a = omega (arith, entry_most rule (runs_of b) (sites b) (chains b) is.laid base a, room.low, size_is b rule base, up-le (code_len b rule))
 
-  entry_lt : (plan_at b base).entry < 2 ^ 32
+  entry_lt : (plan_at b rule base).entry < 2 ^ 32
   unfolding plan
   entry_lt =
-      cond_both (eqb (entry_in (pairs_at b base) (entry_at b)) 0) (entry_at b) (entry_in (pairs_at b base) (entry_at b)) (λ n. n < 2 ^ 32) (λ _. word_at-lt b 24 is.bytes) (λ _. entry_bound (entry_at b))
+      cond_both (eqb (entry_in (pairs_at b rule base) (entry_at b)) 0) (entry_at b) (entry_in (pairs_at b rule base) (entry_at b)) (λ n. n < 2 ^ 32) (λ _. word_at-lt b 24 is.bytes) (λ _. entry_bound (entry_at b))
 
   new_fit : AllByRecursion IsHeader (with_added base (block_headers block) (headers b))
   new_fit =
       let l = room.low in
-      let s = size_is b base in
+      let s = size_is b rule base in
       with_added_fit base (code_of_block block) (table_of_block block) (private_of_block block) (headers b)
       (record { kind = lit< tt; offset = omega (arith, is.small); vaddr = omega (arith, l); paddr = omega (arith, l); filesz = omega (arith, l, s); memsz = omega (arith, l, s); flags = lit< tt; align = lit< tt })
       (record { kind = lit< tt; offset = omega (arith, is.small, l, s, room.at, room.from); vaddr = omega (arith, l, s); paddr = omega (arith, l, s); filesz = omega (arith, l, s); memsz = omega (arith, l, s); flags = lit< tt; align = lit< tt })
-      (record { kind = lit< tt; offset = omega (arith, is.small, l, s, room.at, room.from); vaddr = omega (arith, l, s); paddr = omega (arith, l, s); filesz = lit< tt; memsz = lit< tt; flags = lit< tt; align = lit< tt })
+      (record { kind = lit< tt; offset = omega (arith, is.small, l, s, room.at, room.from); vaddr = omega (arith, l, s); paddr = omega (arith, l, s); filesz = lit< tt; memsz = omega (arith, l, s); flags = lit< tt; align = lit< tt })
       (headers_fit b is.bytes)
 
-  length-new : length (new_headers b (plan_at b base)) ≡ 3 + header_count b
+  length-new : length (new_headers b (plan_at b rule base)) ≡ 3 + header_count b
   length-new = ap (λ (l : List Phdr). length l) headers_are ∙ (length-with_added base (block_headers block) (headers b) ∙ ap (λ n. 3 + n) (length-headers b))
 
   -- a file without a fault has 52 bytes
@@ -251,44 +260,44 @@ module _ (b : List ℕ) (base : ℕ) (is : IsInput b base) where
   unfolding head_fault
   long = ltb-false (length b) 52 (passed (ltb (length b) 52) ShortHeader _ head_none).0
 
-  pub writable : IsWritable b (plan_at b base)
+  pub writable : IsWritable b (plan_at b rule base)
   writable = record {
     ident = omega (arith, long);
     entry = entry_lt;
     headers_fit = subst (AllByRecursion IsHeader) (sym headers_are) new_fit;
     some_header = omega (arith, length-new);
     few_headers = omega (arith, length-new, is.few_headers);
-    few_runs = omega (arith, is.laid.runs.few, ap (λ (l : List RunPlace). length l) (plan_runs b base), length-runs_at b base);
+    few_runs = omega (arith, is.laid.runs.few, ap (λ (l : List RunPlace). length l) (plan_runs b rule base), length-runs_at b rule base);
   }
 
-  pub wrote : IsWritten b (plan_at b base) (file_of b (plan_at b base))
-  wrote = written b (plan_at b base) writable
+  pub wrote : IsWritten b (plan_at b rule base) (file_of b (plan_at b rule base))
+  wrote = written b (plan_at b rule base) writable
 
-  pub length-output : length (file_of b (plan_at b base)) ≡ code_place (length b) + up (code_len b) + up (table_len b)
+  pub length-output : length (file_of b (plan_at b rule base)) ≡ code_place (length b) + up (code_len b rule) + up (table_len b rule)
   length-output =
-      wrote.length_is ∙ (ap (λ c. code_place (length b) + up c + up (length (table_of (plan_at b base)))) (length-code b base is.laid) ∙ ap (λ t. code_place (length b) + up (code_len b) + up t) (length-table_of b base))
+      wrote.length_is ∙ (ap (λ c. code_place (length b) + up c + up (length (table_of (plan_at b rule base)))) (length-code b rule base is.laid) ∙ ap (λ t. code_place (length b) + up (code_len b rule) + up t) (length-table_of b rule base))
 
-  pub is_block : IsBlock (length (file_of b (plan_at b base))) block
+  pub is_block : IsBlock (length (file_of b (plan_at b rule base))) block
   is_block = record {
     at = room.at;
-    low = omega (arith, room.low, size_is b base);
+    low = omega (arith, room.low, size_is b rule base);
     aligned = omega arith;
     inside = omega (arith, length-output);
-    some = lit< tt;
+    some = omega arith;
   }
 
   pub headers_apart : AreApart block (headers b)
   unfolding segments
-  headers_apart = apart_headers block (headers b) (ap (λ n. list_all (is_apart room.page (room.page + n / 4096)) (segments b)) (sym (size_is b base)) ∙ room.apart)
+  headers_apart = apart_headers block (headers b) (ap (λ n. list_all (is_apart room.page (room.page + n / 4096)) (segments b)) (sym (size_is b rule base)) ∙ room.apart)
 
-  pub output_headers : headers (file_of b (plan_at b base)) ≡ with_added base (block_headers block) (headers b)
+  pub output_headers : headers (file_of b (plan_at b rule base)) ≡ with_added base (block_headers block) (headers b)
   output_headers = wrote.headers_are ∙ headers_are
 
   -- the output has no fault
-  pub admitted : load_refusal (file_of b (plan_at b base)) ≡ None
+  pub admitted : load_refusal (file_of b (plan_at b rule base)) ≡ None
   unfolding load_refusal
   admitted =
-      let x = file_of b (plan_at b base) in
+      let x = file_of b (plan_at b rule base) in
       let hs = with_added base (block_headers block) (headers b) in
       let fine : headers_fault (length x) 0 0 hs ≡ None =
       fine_output (length b) (length x) 0 0 0 0 block (headers b) is.small (omega (arith, length-output)) is_block (omega arith) (omega arith) headers_apart headers_none in

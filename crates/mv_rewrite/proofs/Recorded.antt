@@ -1,6 +1,7 @@
 -- The frame of an output.
-use Rattle.std.proofs.Common.{◌≡◌, ℕ, zero, suc, ◌+◌, ◌*◌, ◌<◌, ◌≤◌, Bool, true, cond, eqb, leb, ltb, ◌&&◌, List, [], ◌∷◌, length, Some, refl, sym, ap, ◌∙◌, subst, arith, append-nil}
+use Rattle.std.proofs.Common.{◌≡◌, ℕ, zero, suc, ◌+◌, ◌*◌, ◌<◌, ◌≤◌, Bool, true, cond, eqb, leb, ltb, ◌&&◌, List, [], ◌∷◌, ◌++◌, length, Some, refl, sym, ap, ◌∙◌, subst, arith}
 use Rattle.std.specs.List.{sum_by, list_all, range_with_len, AllByRecursion}
+use Rattle.std.proofs.lemmas.List.{ext_get_or}
 use Rattle.std.proofs.lemmas.List.Sums.{sum_by-cons}
 use Rattle.std.proofs.lemmas.Bool.{le-leb, lt-ltb, and_from}
 use Rattle.mv_base.specs.Bytes.{words}
@@ -12,34 +13,40 @@ use Rattle.elf32_write.specs.declared.plan.Plan.{Plan}
 use Rattle.elf32_write.specs.Format.{up}
 use Rattle.elf32_write.specs.File.{table_of, file_of}
 use Rattle.elf32_write.specs.Frame.{Frame, TableAt, is_in_table, has_pages, has_part, has_runs, frame, frame_table}
+use Rattle.elf32_write.specs.Frame as frame
 use Rattle.elf32_write.specs.Writing.{EndsLow}
 use Rattle.elf32_write.specs.Plans.{frame_of, plan_table, KeepsRules, ReadsBack}
 use Rattle.elf32_write.specs.ReadBack.{reads_back}
+use Rattle.counter_hooks.specs.declared.rules.Rule.{Rule}
 use Rattle.map_table.specs.Paged.{places_from, IsPaged}
 use Rattle.map_table.specs.laws.Reading.{Laws, made_laws}
 use Rattle.image_layout.specs.Layout.{plan}
 use Rattle.image_layout.specs.laws.SiteFacts.{run_len}
 use Rattle.image_layout.specs.laws.LayFacts.{AreLaid}
+use Rattle.simulation_laws.specs.Relocated.{counted}
+use Rattle.simulation_laws.specs.laws.Counters.{counted_is, length-counted as length-counted_at}
+use Rattle.mv_rewrite.proofs.LayoutFacts.{counted_low}
 use Rattle.mv_rewrite.specs.Sites.{sites}
-use Rattle.mv_rewrite.specs.Layout.{chains, code_len, table_len, table_from, private_from, pairs_at, runs_at, plan_at}
-use Rattle.mv_rewrite.proofs.Planned.{length-code, length-table, length-table_of, size_is, IsInput, room, made_at, writable}
+use Rattle.mv_rewrite.specs.Layout.{chains, counted_at, code_len, table_len, table_from, private_from, pairs_at, runs_at, plan_at}
+use Rattle.mv_rewrite.proofs.Planned.{count, private_size, words_len, length-code, length-table, length-table_of, length-counted, size_is, IsInput, room, made_at, writable}
+use Rattle.mv_rewrite.proofs.Longer.{page_front}
 
 -- ---- the frame that the record spells
 
-abbrev pub frame_is : List ℕ → ℕ → Frame
-frame_is b base = record {
+abbrev pub frame_is : List ℕ → Rule → ℕ → Frame
+frame_is b rule base = record {
   form = 2;
   input_len = length b;
-  added = record { lo = base; len = up (code_len b) + up (table_len b) + 4096 };
-  code = record { lo = base; len = code_len b };
-  table = record { lo = base + up (code_len b); len = table_len b };
-  private = private_from b base;
+  added = record { lo = base; len = up (code_len b rule) + up (table_len b rule) + up (private_size b rule) };
+  code = record { lo = base; len = code_len b rule };
+  table = record { lo = base + up (code_len b rule); len = table_len b rule };
+  private = private_from b rule base;
   private_size = 64;
-  first_counter = base + up (code_len b) + up (table_len b) + 64;
-  counters = 0;
-  list = base + up (code_len b) + table_len b;
-  runs = runs_at b base;
-  file = file_of b (plan_at b base);
+  first_counter = base + up (code_len b rule) + up (table_len b rule) + 64;
+  counters = count b rule;
+  list = base + up (code_len b rule) + words_len b;
+  runs = runs_at b rule base;
+  file = file_of b (plan_at b rule base);
 }
 
 -- a test passes all numbers of a range
@@ -48,10 +55,10 @@ all_in test from zero passes = refl
 all_in test from (suc n) passes =
     and_from (test from) (list_all test (range_with_len (from + 1) n)) (passes from (omega arith) (omega arith)) (all_in test (from + 1) n (λ g low high. passes g (omega arith) (omega arith)))
 
-runs_keep : (t : TableAt) (from dir : ℕ) (rs : List Run) → t.form ≡ 2 → AreApart from rs → t.lo + length t.bytes ≤ t.list → AllByRecursion (IsPaged t.bytes t.lo) (places_from dir rs) → has_runs t from (places_from dir rs) ≡ true
+runs_keep : (t : TableAt) (xs ys : List ℕ) (from dir : ℕ) (rs : List Run) → t.form ≡ 2 → t.bytes ≡ xs ++ ys → AreApart from rs → t.lo + length xs ≤ t.list → AllByRecursion (IsPaged xs t.lo) (places_from dir rs) → has_runs t from (places_from dir rs) ≡ true
 unfolding has_runs has_part has_pages places_from
-runs_keep t from dir [] paged apart end all = refl
-runs_keep t from dir (r ∷ rs) paged apart end all =
+runs_keep t xs ys from dir [] paged split apart end all = refl
+runs_keep t xs ys from dir (r ∷ rs) paged split apart end all =
     let place : RunPlace = record { lo = r.lo; len = length r.bytes; dir = dir } in
     let count = group_count (length r.bytes) in
     let one = all.0 in
@@ -63,13 +70,14 @@ runs_keep t from dir (r ∷ rs) paged apart end all =
     let page : (g : ℕ) → 0 ≤ g → g < 0 + count → is_in_table t (page_named t.bytes t.lo dir g) 4096 ≡ true =
     λ g low lt.
     let below : g < count = omega arith in
-    and_from _ _ (le-leb t.lo (page_named t.bytes t.lo dir g) (one.page_low g below))
-    (le-leb (page_named t.bytes t.lo dir g + 4096) t.list (omega (arith, one.page_high g below, end))) in
+    let named : page_named t.bytes t.lo dir g ≡ page_named xs t.lo dir g = ap (λ (l : List ℕ). page_named l t.lo dir g) split ∙ page_front xs ys t.lo place one g below in
+    and_from _ _ (le-leb t.lo (page_named t.bytes t.lo dir g) (omega (arith, named, one.page_low g below)))
+    (le-leb (page_named t.bytes t.lo dir g + 4096) t.list (omega (arith, named, one.page_high g below, end))) in
     let pages : has_pages t place ≡ true = all_in (λ g. is_in_table t (page_named t.bytes t.lo dir g) 4096) 0 count page in
     let part : has_part t place ≡ true =
     ap (λ n. cond (eqb n 1) (is_in_table t dir (4 * length r.bytes)) (is_in_table t dir (4 * count) && has_pages t place)) paged ∙ and_from _ _ directory pages in
     and_from _ _ (and_from _ _ (and_from _ _ (and_from _ _ c0 c1) c2) part)
-    (runs_keep t (r.lo + length r.bytes + 1) (dir + 4 * count) rs paged apart.3 end all.1)
+    (runs_keep t xs ys (r.lo + length r.bytes + 1) (dir + 4 * count) rs paged split apart.3 end all.1)
 
 abbrev place_len : RunPlace → ℕ
 place_len r = r.len
@@ -82,76 +90,78 @@ places_sum dir (r ∷ rs) =
     let next = dir + 4 * group_count (length r.bytes) in
     sum_by-cons place_len place (places_from next rs) ∙ (ap (λ n. length r.bytes + n) (places_sum next rs) ∙ sym (sum_by-cons run_len r rs))
 
-abbrev frame_by : List ℕ → ℕ → ℕ → ℕ → ℕ → Frame
-frame_by b base c t u = record {
+abbrev frame_by : List ℕ → Rule → ℕ → ℕ → ℕ → ℕ → Frame
+frame_by b rule base c t u = record {
   form = 2;
   input_len = length b;
-  added = record { lo = base; len = up c + up t + 4096 };
+  added = record { lo = base; len = up c + up t + up (private_size b rule) };
   code = record { lo = base; len = c };
   table = record { lo = base + up c; len = t };
   private = base + up c + up t;
   private_size = 64;
   first_counter = base + up c + up t + 64;
-  counters = 0;
+  counters = count b rule;
   list = base + up c + u;
-  runs = runs_at b base;
-  file = file_of b (plan_at b base);
+  runs = runs_at b rule base;
+  file = file_of b (plan_at b rule base);
 }
 
-same_frame : (b : List ℕ) (base : ℕ) → AreLaid (runs_of b) (sites b) (chains b) → frame_of b (plan_at b base) ≡ frame_is b base
+same_frame : (b : List ℕ) (rule : Rule) (base : ℕ) → AreLaid (runs_of b) (sites b) (chains b) → frame_of b (plan_at b rule base) ≡ frame_is b rule base
 unfolding frame_of plan
-same_frame b base laid =
-    ap (λ c. frame_by b base c (length (table_of (plan_at b base))) (length (plan_at b base).table)) (length-code b base laid)
-    ∙ (ap (λ t. frame_by b base (code_len b) t (length (plan_at b base).table)) (length-table_of b base)
-    ∙ ap (λ u. frame_by b base (code_len b) (table_len b) u) (length-table b base))
+same_frame b rule base laid =
+    ap (λ c. frame_by b rule base c (length (table_of (plan_at b rule base))) (length (plan_at b rule base).table)) (length-code b rule base laid)
+    ∙ (ap (λ t. frame_by b rule base (code_len b rule) t (length (plan_at b rule base).table)) (length-table_of b rule base)
+    ∙ ap (λ u. frame_by b rule base (code_len b rule) (table_len b rule) u) (length-table b rule base))
 
-module _ (b : List ℕ) (base : ℕ) (is : IsInput b base) where
+module _ (b : List ℕ) (rule : Rule) (base : ℕ) (is : IsInput b rule base) where
   abbrev p : Plan
-  p = plan_at b base
+  p = plan_at b rule base
 
-  lengths : (up (length p.code) ≡ up (code_len b)) × (length (table_of p) ≡ table_len b) × (length p.table ≡ table_len b)
-  lengths = (ap up (length-code b base is.laid), length-table_of b base, length-table b base)
+  lengths : (up (length p.code) ≡ up (code_len b rule)) × (length (table_of p) ≡ table_len b rule) × (length p.table ≡ words_len b)
+  lengths = (ap up (length-code b rule base is.laid), length-table_of b rule base, length-table b rule base)
 
   -- what the table reads as
-  laws : Laws (record { runs = runs_of b; pairs = pairs_at b base; lo = table_from b base }) (plan_at b base).table
+  laws : Laws (record { runs = runs_of b; pairs = pairs_at b rule base; lo = table_from b rule base }) (plan_at b rule base).table
   unfolding plan
-  laws = made_laws (record { runs = runs_of b; pairs = pairs_at b base; lo = table_from b base }) (made_at b base is)
+  laws = made_laws (record { runs = runs_of b; pairs = pairs_at b rule base; lo = table_from b rule base }) (made_at b rule base is)
 
-  pub whole_table : table_of (plan_at b base) ≡ (plan_at b base).table
-  unfolding plan words
-  whole_table = append-nil (plan_at b base).table
-
-  low_there : table_from b base ≡ (plan_table (plan_at b base)).lo
+  low_there : table_from b rule base ≡ (plan_table (plan_at b rule base)).lo
   unfolding plan
   low_there = ap (λ n. base + n) (sym lengths.0)
 
-  paged : AllByRecursion (IsPaged (plan_table (plan_at b base)).bytes (plan_table (plan_at b base)).lo) (runs_at b base)
-  paged =
-      subst (λ (n : ℕ). AllByRecursion (IsPaged (table_of (plan_at b base)) n) (runs_at b base)) low_there
-      (subst (λ (t : List ℕ). AllByRecursion (IsPaged t (table_from b base)) (runs_at b base)) (sym whole_table) laws.inside_are)
+  paged : AllByRecursion (IsPaged (plan_at b rule base).table (plan_table (plan_at b rule base)).lo) (runs_at b rule base)
+  paged = subst (λ (n : ℕ). AllByRecursion (IsPaged (plan_at b rule base).table n) (runs_at b rule base)) low_there laws.inside_are
 
-  keeps : KeepsRules (plan_at b base)
+  keeps : KeepsRules (plan_at b rule base)
   unfolding plan
   keeps =
-      let t : TableAt = plan_table (plan_at b base) in
-      let end : t.lo + length t.bytes ≤ t.list = omega (arith, lengths.0, lengths.1, lengths.2) in
+      let t : TableAt = plan_table (plan_at b rule base) in
+      let end : t.lo + length p.table ≤ t.list = omega (arith, lengths.0, lengths.2) in
       record {
-        at = omega (arith, (room b base is).at);
-        size = le-leb (sum_by place_len (runs_at b base)) 4194304 (omega (arith, places_sum (table_from b base + 4096) (runs_of b), is.laid.runs.small));
-        runs = runs_keep t 0 (table_from b base + 4096) (runs_of b) refl is.laid.runs.apart end paged;
+        at = omega (arith, (room b rule base is).at);
+        size = le-leb (sum_by place_len (runs_at b rule base)) 4194304 (omega (arith, places_sum (table_from b rule base + 4096) (runs_of b), is.laid.runs.small));
+        runs = runs_keep t p.table (words p.counted) 0 (table_from b rule base + 4096) (runs_of b) refl refl is.laid.runs.apart end paged;
       }
 
-  ends : EndsLow (plan_at b base)
+  ends : EndsLow (plan_at b rule base)
   unfolding plan
-  ends = omega (arith, (room b base is).low, size_is b base, lengths.0, lengths.1)
+  ends = omega (arith, (room b rule base is).low, size_is b rule base, lengths.0, lengths.1, length-counted b rule base)
 
-  read : ReadsBack b (plan_at b base) (file_of b (plan_at b base))
+  read : ReadsBack b (plan_at b rule base) (file_of b (plan_at b rule base))
   read =
-      let can = writable b base is in
-      reads_back b (plan_at b base) (record { ident = can.ident; few_headers = can.few_headers; few_runs = can.few_runs }) is.small ends keeps
+      let can = writable b rule base is in
+      reads_back b (plan_at b rule base) (record { ident = can.ident; few_headers = can.few_headers; few_runs = can.few_runs }) is.small ends keeps
 
-  pub framed : frame (file_of b (plan_at b base)) ≡ Some (frame_is b base)
-  framed = read.frame_is ∙ ap Some (same_frame b base is.laid)
+  pub framed : frame (file_of b (plan_at b rule base)) ≡ Some (frame_is b rule base)
+  framed = read.frame_is ∙ ap Some (same_frame b rule base is.laid)
 
-  pub table_there : frame_table (frame_is b base) ≡ (plan_at b base).table
-  table_there = ap frame_table (sym (same_frame b base is.laid)) ∙ (read.table_is ∙ whole_table)
+  pub table_there : frame_table (frame_is b rule base) ≡ table_of (plan_at b rule base)
+  table_there = ap frame_table (sym (same_frame b rule base is.laid)) ∙ read.table_is
+
+  -- the counted addresses are the plan's
+  pub counted_there : counted (frame_is b rule base) ≡ counted_at b rule
+  unfolding plan
+  counted_there =
+      ext_get_or 0 (counted (frame_is b rule base)) (counted_at b rule) (length-counted_at (frame_is b rule base)) (λ k lt.
+      let below : k < count b rule = omega (arith, lt, length-counted_at (frame_is b rule base)) in
+      counted_is (frame_is b rule base) k below ∙ (ap (λ (f : Frame). frame.counted_at f k) (sym (same_frame b rule base is.laid)) ∙ read.counted_are k below (counted_low b rule is.laid k below)))

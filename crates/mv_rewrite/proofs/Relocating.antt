@@ -2,7 +2,7 @@
 use Rattle.std.proofs.Common.{◌≡◌, ℕ, ◌+◌, ◌-◌, ◌<◌, Bool, true, false, cond, ltb, List, [], ◌∷◌, length, Option, Some, None, refl, sym, ap, ◌∙◌, subst, inl, inr, arith}
 use Rattle.std.specs.Prelude.{slice_index}
 use Rattle.std.proofs.lemmas.Bool.{cases_Bool, cases_lt, and_from, and_cases, lt-ltb, ltb-false, true≢false}
-use Rattle.mv_base.specs.Memory.{Cell, within, first_of, cell_is, exec_byte, exec_byte_of}
+use Rattle.mv_base.specs.Memory.{Cell, byte_of, within, first_of, cell_is, exec_byte, exec_byte_of}
 use Rattle.elf32_read.specs.declared.image.Phdr.{Phdr}
 use Rattle.elf32_read.specs.Fields.{headers, entry_at, is_load, maps, has_write, has_exec}
 use Rattle.elf32_read.specs.Faults.{headers_fault, free_after}
@@ -13,6 +13,9 @@ use Rattle.elf32_write.specs.Parts.{Stands}
 use Rattle.elf32_write.specs.Frame.{frame_code, is_added, is_private}
 use Rattle.elf32_write.specs.ReadBack.{taken}
 use Rattle.elf32_write.specs.Within.{within_parts}
+use Rattle.elf32_write.specs.Written.{up-le}
+use Rattle.counter_hooks.specs.Rules.{Ascend}
+use Rattle.counter_hooks.specs.declared.rules.Rule.{Rule}
 use Rattle.image_layout.specs.Layout.{plan}
 use Rattle.mv_rewrite.specs.Layout.{code_len, table_len, table_from, plan_at}
 use Rattle.simulation_laws.specs.Relocated.{IsOutput, IsRelocated, without_exec}
@@ -20,8 +23,9 @@ use Rattle.mv_rewrite.proofs.PlacedPlan.{IsPlaced, map_is, others, mapped, piece
 use Rattle.mv_rewrite.proofs.Fine.{IsFine}
 use Rattle.mv_rewrite.proofs.NewHeaders.{Block, IsBlock, code_of_block, table_of_block, private_of_block, block_headers, AreApart, fine_parts}
 use Rattle.mv_rewrite.proofs.NewCells.{not_within, within_is, inner_cell, three, header_cell, cells_of, loads, cell_inside, cell_outside, cell_unloaded, within_not, kept_cells, InBlock, OutOfBlock, output_out, output_in, code_cell, block_fixed, private_cell}
-use Rattle.mv_rewrite.proofs.Planned.{length-code, length-table, size_is, IsInput, room, has, block, headers_none, wrote, is_block, headers_apart, output_headers, admitted}
-use Rattle.mv_rewrite.proofs.Recorded.{frame_is, framed, whole_table, table_there}
+use Rattle.mv_rewrite.proofs.Planned.{private_size, length-code, length-table_of, size_is, IsInput, room, has, block, headers_none, wrote, is_block, headers_apart, output_headers, admitted}
+use Rattle.mv_rewrite.proofs.Recorded.{frame_is, framed, table_there, counted_there}
+use Rattle.mv_rewrite.proofs.LayoutFacts.{counted_ascend}
 
 -- ---- the input's cells
 
@@ -95,116 +99,117 @@ table_cell x table k n len stands lt =
 
 -- ---- the output
 
-module _ (b : List ℕ) (base : ℕ) (is : IsInput b base) where
+module _ (b : List ℕ) (rule : Rule) (base : ℕ) (is : IsInput b rule base) where
   abbrev x : List ℕ
-  x = file_of b (plan_at b base)
+  x = file_of b (plan_at b rule base)
 
   -- an address of the block, and one outside it
-  in_block : (a : ℕ) → is_added (frame_is b base) a ≡ true → InBlock (block b base is) a
+  in_block : (a : ℕ) → is_added (frame_is b rule base) a ≡ true → InBlock (block b rule base is) a
   in_block a e =
-      let q = within_parts base (up (code_len b) + up (table_len b) + 4096) a e in
+      let q = within_parts base (up (code_len b rule) + up (table_len b rule) + up (private_size b rule)) a e in
       record { from = q.0; below = omega (arith, q.1) }
 
-  out_block : (a : ℕ) → is_added (frame_is b base) a ≡ false → OutOfBlock (block b base is) a
-  out_block a e = elim (not_within base (up (code_len b) + up (table_len b) + 4096) a e) [
+  out_block : (a : ℕ) → is_added (frame_is b rule base) a ≡ false → OutOfBlock (block b rule base is) a
+  out_block a e = elim (not_within base (up (code_len b rule) + up (table_len b rule) + up (private_size b rule)) a e) [
     | inl lt ↦ inl lt
     | inr le ↦ inr (omega (arith, le))
   ]
 
-  outside : (a : ℕ) → is_added (frame_is b base) a ≡ false → load x a ≡ without_exec (load b a)
+  outside : (a : ℕ) → is_added (frame_is b rule base) a ≡ false → load x a ≡ without_exec (load b a)
   outside a e =
-      loads x (with_added base (block_headers (block b base is)) (headers b)) (output_headers b base is) a
-      ∙ (output_out x (block b base is) (headers b) a (out_block a e)
-      ∙ (kept_cells b x 0 0 (headers b) a (wrote b base is).input_stands is.small (headers_none b base is) ∙ ap without_exec (sym (loads b (headers b) refl a))))
+      loads x (with_added base (block_headers (block b rule base is)) (headers b)) (output_headers b rule base is) a
+      ∙ (output_out x (block b rule base is) (headers b) a (out_block a e)
+      ∙ (kept_cells b x 0 0 (headers b) a (wrote b rule base is).input_stands is.small (headers_none b rule base is) ∙ ap without_exec (sym (loads b (headers b) refl a))))
 
-  free : (a : ℕ) → is_added (frame_is b base) a ≡ true → load b a ≡ None
-  free a e = loads b (headers b) refl a ∙ input_out b (length x) (block b base is) (headers b) a (is_block b base is) (in_block a e) (headers_apart b base is)
+  free : (a : ℕ) → is_added (frame_is b rule base) a ≡ true → load b a ≡ None
+  free a e = loads b (headers b) refl a ∙ input_out b (length x) (block b rule base is) (headers b) a (is_block b rule base is) (in_block a e) (headers_apart b rule base is)
 
-  added : (a : ℕ) → InBlock (block b base is) a → load x a ≡ cells_of x (block_headers (block b base is)) a
+  added : (a : ℕ) → InBlock (block b rule base is) a → load x a ≡ cells_of x (block_headers (block b rule base is)) a
   added a at =
-      loads x (with_added base (block_headers (block b base is)) (headers b)) (output_headers b base is) a
-      ∙ output_in x (length x) (block b base is) (headers b) a (is_block b base is) at (headers_apart b base is)
+      loads x (with_added base (block_headers (block b rule base is)) (headers b)) (output_headers b rule base is) a
+      ∙ output_in x (length x) (block b rule base is) (headers b) a (is_block b rule base is) at (headers_apart b rule base is)
 
-  private_in : (a : ℕ) → is_private (frame_is b base) a ≡ true → InBlock (block b base is) a
+  private_in : (a : ℕ) → is_private (frame_is b rule base) a ≡ true → InBlock (block b rule base is) a
   private_in a e =
-      let q = within_parts (base + up (code_len b) + up (table_len b)) 64 a e in
-      record { from = omega (arith, q.0); below = omega (arith, q.1) }
+      let q = within_parts (base + up (code_len b rule) + up (table_len b rule)) (private_size b rule) a e in
+      record { from = omega (arith, q.0); below = omega (arith, q.1, up-le (private_size b rule)) }
 
-  in_added : (a : ℕ) → InBlock (block b base is) a → is_added (frame_is b base) a ≡ true
-  in_added a at = within_is base (up (code_len b) + up (table_len b) + 4096) a (omega (arith, at.from)) (omega (arith, at.below))
+  in_added : (a : ℕ) → InBlock (block b rule base is) a → is_added (frame_is b rule base) a ≡ true
+  in_added a at = within_is base (up (code_len b rule) + up (table_len b rule) + up (private_size b rule)) a (omega (arith, at.from)) (omega (arith, at.below))
 
   -- the table: the bytes that stand at its place
-  table_stands : Stands x (code_place (length b) + up (code_len b)) (plan_at b base).table
-  table_stands =
-      subst (λ (t : List ℕ). Stands x (code_place (length b) + up (code_len b)) t) (whole_table b base is)
-      (subst (λ n. Stands x (code_place (length b) + up n) (table_of (plan_at b base))) (length-code b base is.laid) (wrote b base is).table_stands)
+  table_stands : Stands x (code_place (length b) + up (code_len b rule)) (table_of (plan_at b rule base))
+  table_stands = subst (λ n. Stands x (code_place (length b) + up n) (table_of (plan_at b rule base))) (length-code b rule base is.laid) (wrote b rule base is).table_stands
 
-  pub table_words : (k : ℕ) → k < length (plan_at b base).table → load x (table_from b base + k) ≡ Some (record { byte = slice_index (plan_at b base).table k; write = false; exec = false })
+  pub table_words : (k : ℕ) → k < length (table_of (plan_at b rule base)) → load x (table_from b rule base + k) ≡ Some (record { byte = slice_index (table_of (plan_at b rule base)) k; write = false; exec = false })
   table_words k lt =
-      let len = length-table b base in
-      added (table_from b base + k) (record { from = omega arith; below = omega (arith, lt, len) })
-      ∙ table_cell x (plan_at b base).table (block b base is) k len table_stands lt
+      let len = length-table_of b rule base in
+      added (table_from b rule base + k) (record { from = omega arith; below = omega (arith, lt, len) })
+      ∙ table_cell x (table_of (plan_at b rule base)) (block b rule base is) k len table_stands lt
 
-  pub is_placed : IsPlaced b base x (frame_is b base)
+  pub is_placed : IsPlaced b rule base x (frame_is b rule base)
   is_placed = record {
-    table_is = table_there b base is;
+    table_is = table_there b rule base is;
     table_lo = refl;
     form_is = refl;
     code_lo = refl;
     runs_are = refl;
-    counters = refl;
     private = refl;
+    first_counter = refl;
+    counted_are = counted_there b rule base is;
     added_lo = refl;
-    added_len = sym (size_is b base);
+    added_len = sym (size_is b rule base);
     cells = λ k lt.
-        let len = length-code b base is.laid in
+        let len = length-code b rule base is.laid in
         added (base + k) (record { from = omega arith; below = omega (arith, lt, len) })
-        ∙ code_cell x (plan_at b base).code (block b base is) k len (wrote b base is).code_stands lt;
+        ∙ code_cell x (plan_at b rule base).code (block b rule base is) k len (wrote b rule base is).code_stands lt;
     words = table_words;
-    positive = omega (arith, (room b base is).at, (room b base is).from);
-    low = (room b base is).low;
+    positive = omega (arith, (room b rule base is).at, (room b rule base is).from);
+    low = (room b rule base is).low;
     code = is.code;
     laid = is.laid;
-    based = has b base is;
+    based = has b rule base is;
   }
 
   -- the code may be executed where the frame says
-  code_runs : (k : ℕ) → k < length (frame_code (frame_is b base)) → exec_byte (load x) ((frame_is b base).code.lo + k) ≡ Some (slice_index (frame_code (frame_is b base)) k)
+  code_runs : (k : ℕ) → k < length (frame_code (frame_is b rule base)) → exec_byte (load x) ((frame_is b rule base).code.lo + k) ≡ Some (slice_index (frame_code (frame_is b rule base)) k)
   code_runs k lt =
-      let code = (plan_at b base).code in
-      let is_code : frame_code (frame_is b base) ≡ code = taken x code (code_place (length b)) (code_len b) (length-code b base is.laid) (wrote b base is).code_stands in
+      let code = (plan_at b rule base).code in
+      let is_code : frame_code (frame_is b rule base) ≡ code = taken x code (code_place (length b)) (code_len b rule) (length-code b rule base is.laid) (wrote b rule base is).code_stands in
       let below : k < length code = omega (arith, lt, ap length is_code) in
       ap exec_byte_of (is_placed.cells k below) ∙ ap (λ (l : List ℕ). Some (slice_index l k)) (sym is_code)
 
-  pub output_is : IsOutput b x (frame_is b base)
+  pub output_is : IsOutput b x (frame_is b rule base)
   unfolding plan
   output_is = record {
-    admitted = admitted b base is;
-    framed = framed b base is;
-    low = omega (arith, (room b base is).low, size_is b base);
+    admitted = admitted b rule base is;
+    framed = framed b rule base is;
+    low = omega (arith, (room b rule base is).low, size_is b rule base);
     bytes = is.bytes;
-    uncounted = refl;
+    bytes_there = is.bytes_there;
     outside = outside;
     free = free;
-    scratch = λ a e. (in_added a (private_in a e), ap write_of (added a (private_in a e) ∙ private_cell x (block b base is) a e));
-    fixed = λ a e w. ap write_of (added a (in_block a e)) ∙ block_fixed x (block b base is) a w;
-    idle = λ a e. ap exec_of (added a (private_in a e) ∙ private_cell x (block b base is) a e);
-    unwritable = λ a e. ap write_of (loads b (headers b) refl a) ∙ fixed_all b (length b) 0 0 (headers b) a (headers_none b base is) (sym (ap exec_of (loads b (headers b) refl a)) ∙ e);
-    stub = stub_stands b base x (frame_is b base) is_placed;
-    table_added = table_added b base x (frame_is b base) is_placed;
-    table_bytes = table_are_bytes b base x (frame_is b base) is_placed;
-    table_holds = table_holds b base x (frame_is b base) is_placed;
-    table_low = table_low b base x (frame_is b base) is_placed;
-    placed = placed b base x (frame_is b base) is_placed;
-    mapped = mapped b base x (frame_is b base) is_placed;
+    scratch = λ a e. (in_added a (private_in a e), ap write_of (added a (private_in a e) ∙ private_cell x (block b rule base is) a e));
+    fixed = λ a e w. ap write_of (added a (in_block a e)) ∙ block_fixed x (block b rule base is) a w;
+    idle = λ a e. ap exec_of (added a (private_in a e) ∙ private_cell x (block b rule base is) a e);
+    zeros = λ a e. ap byte_of (added a (private_in a e) ∙ private_cell x (block b rule base is) a e);
+    unwritable = λ a e. ap write_of (loads b (headers b) refl a) ∙ fixed_all b (length b) 0 0 (headers b) a (headers_none b rule base is) (sym (ap exec_of (loads b (headers b) refl a)) ∙ e);
+    stub = stub_stands b rule base x (frame_is b rule base) is_placed;
+    table_added = table_added b rule base x (frame_is b rule base) is_placed;
+    table_bytes = table_are_bytes b rule base x (frame_is b rule base) is_placed;
+    table_holds = table_holds b rule base x (frame_is b rule base) is_placed;
+    table_low = table_low b rule base x (frame_is b rule base) is_placed;
+    placed = placed b rule base x (frame_is b rule base) is_placed;
+    mapped = mapped b rule base x (frame_is b rule base) is_placed;
     code = code_runs;
   }
 
-  pub relocated : IsRelocated b x (frame_is b base)
+  pub relocated : IsRelocated b x (frame_is b rule base)
   unfolding plan
   relocated = record {
     output = output_is;
-    entry = (wrote b base is).entry_is ∙ sym (map_is b base x (frame_is b base) is_placed (entry_at b));
-    pieces = pieces b base x (frame_is b base) is_placed;
-    others = others b base x (frame_is b base) is_placed;
+    ascends = subst Ascend (sym (counted_there b rule base is)) (counted_ascend b rule is.laid);
+    entry = (wrote b rule base is).entry_is ∙ sym (map_is b rule base x (frame_is b rule base) is_placed (entry_at b));
+    pieces = pieces b rule base x (frame_is b rule base) is_placed;
+    others = others b rule base x (frame_is b rule base) is_placed;
   }

@@ -1,6 +1,7 @@
 //! Rewriting a whole file.
 
 ghost use Rattle.std.specs.Prelude.{◌≡◌, ◌≤◌, length, None, IfOk};
+ghost use Rattle.mv_base.specs.Bytes.{AreBytes};
 ghost use Rattle.elf32_read.specs.Faults.{limit_fault, load_refusal};
 ghost use Rattle.elf32_read.specs.Reading.{IsImage};
 ghost use Rattle.elf32_write.specs.Frame.{Frame};
@@ -9,6 +10,7 @@ ghost use Rattle.mv_rewrite.specs.OutputFile.{IsWrittenFor};
 ghost use Rattle.mv_rewrite.specs.Rewriting.{IsRewritten};
 ghost use Rattle.simulation_laws.specs.Stopping.{Simulates};
 
+use counter_hooks::{Hooks, Question};
 use elf32_read::{Image, ImageFault, ReadImage, admit, read_image, runs};
 use elf32_write::{Plan, added_len, write_image};
 use image_layout::{LayFault, lay};
@@ -67,67 +69,93 @@ impl From<LayFault> for RewriteFault {
     }
 }
 
-/// The output of a static executable: its code relocated, a table from old to new addresses, and the input
-/// whole, no longer executable. While the steps of a run of the input are clear (its system calls touch no added address
-/// and no code, and no trap comes at an added address), the output passes through a state that agrees after each of
-/// them, shows nothing else on the way, and stops where the input stops; where the input stops at bytes outside the known
-/// instructions, the output stops by a fetch fault at the same address.
+/// The output of a static executable: its code relocated, a table from old to new addresses, the counters of the sites
+/// that the hooks' rule picks, and the input whole, no longer executable. While the steps of a run of the input are clear
+/// (its system calls touch no added address and no code, and no trap comes at an added address), the output passes through
+/// a state that agrees after each of them, shows nothing else on the way, and stops where the input stops; where the input
+/// stops at bytes outside the known instructions, the output stops by a fetch fault at the same address. After each of
+/// these steps each counter holds how often its site was executed, modulo 2^64, and at a stop the instruction that stops
+/// is counted too.
+///
+/// The hooks are asked twice a site.
 ///
 /// # Errors
 ///
 /// `Image` with the file's first fault, where it has one; else `NoRoom` with the size of the added block, where no
 /// place has room for it; `NoMemory` where memory is wanted.
-pub fn rewrite(alloc: Global, bytes: &[u8]) -> Result<Rewritten, RewriteFault>
+pub fn rewrite<F: Question>(
+    alloc: Global,
+    bytes: &[u8],
+    hooks: &Hooks<F>,
+) -> Result<Rewritten, RewriteFault>
     requires { length bytes.now ≤ FILE_LIMIT }
-    ensures rewritten { IsRewritten bytes.now result }
+    ensures rewritten { IsRewritten bytes.now hooks.now result }
     ensures simulates { IfOk result (λ r. Simulates bytes.now r.bytes) }
-    ensures written { IfOk result (λ r. (f : Frame) × IsWrittenFor bytes.now r.bytes f) }
+    ensures written { IfOk result (λ r. (f : Frame) × IsWrittenFor bytes.now hooks.now r.bytes f) }
 {
     match read_image(alloc, bytes) {
-        Ok(image) => rewrite_image(alloc, &image, bytes),
+        Ok(image) => rewrite_image(alloc, &image, bytes, hooks),
         Err(ReadImage::Bad(fault)) => Err(RewriteFault::Image(fault)),
         Err(ReadImage::NoMemory) => Err(RewriteFault::NoMemory),
     }
 }
 
 /// The output of a file whose image this is.
-fn rewrite_image(alloc: Global, image: &Image, bytes: &[u8]) -> Result<Rewritten, RewriteFault>
+fn rewrite_image<F: Question>(
+    alloc: Global,
+    image: &Image,
+    bytes: &[u8],
+    hooks: &Hooks<F>,
+) -> Result<Rewritten, RewriteFault>
     requires image { IsImage bytes.now image.now }
     requires limit { length bytes.now ≤ FILE_LIMIT }
-    ensures { IsRewritten bytes.now result }
+    ensures rewritten { IsRewritten bytes.now hooks.now result }
+    ensures bytes { IfOk result (λ r. AreBytes r.bytes) }
 {
     match admit(image) {
-        Ok(()) => rewrite_admitted(alloc, image, bytes),
+        Ok(()) => rewrite_admitted(alloc, image, bytes, hooks),
         Err(fault) => Err(RewriteFault::Image(fault)),
     }
 }
 
 /// The output of a file whose image this is, and within the limits.
-fn rewrite_admitted(alloc: Global, image: &Image, bytes: &[u8]) -> Result<Rewritten, RewriteFault>
+fn rewrite_admitted<F: Question>(
+    alloc: Global,
+    image: &Image,
+    bytes: &[u8],
+    hooks: &Hooks<F>,
+) -> Result<Rewritten, RewriteFault>
     requires image { IsImage bytes.now image.now }
     requires admitted { limit_fault bytes.now ≡ None }
     requires limit { length bytes.now ≤ FILE_LIMIT }
-    ensures { IsRewritten bytes.now result }
+    ensures rewritten { IsRewritten bytes.now hooks.now result }
+    ensures bytes { IfOk result (λ r. AreBytes r.bytes) }
 {
     let runs = runs(alloc, image, bytes)?;
     let sites = sites(alloc, &runs)?;
     let chains = chains(alloc, &sites)?;
-    let plan = lay(alloc, image, &runs, &sites, &chains)?;
+    let plan = lay(alloc, image, &runs, &sites, &chains, hooks)?;
     let file = write_image(alloc, image, bytes, &plan)?;
+    are_bytes(&file);
     Ok(Rewritten {
         bytes: Bytes::new(file),
         sites: sites.len() as u32,
-        added: added(bytes, &plan),
-        counters: 0,
+        added: added(bytes, hooks, &plan),
+        counters: plan.counted.len() as u32,
     })
 }
 
-/// The addresses that the plan of a file adds.
-fn added(_bytes: &[u8], plan: &Plan) -> Range
+/// The items of bytes are below 256.
+fn are_bytes(_bytes: &[u8])
+    ensures { AreBytes _bytes.now }
+{}
+
+/// The addresses that the plan of a file and a rule adds.
+fn added<F: Question>(_bytes: &[u8], _hooks: &Hooks<F>, plan: &Plan) -> Range
     requires whole { load_refusal _bytes.now ≡ None }
     requires admitted { limit_fault _bytes.now ≡ None }
-    requires planned { IsPlanned _bytes.now plan.now }
-    ensures { result ≡ record { lo = plan.now.base; len = size _bytes.now } }
+    requires planned { IsPlanned _bytes.now _hooks.now plan.now }
+    ensures { result ≡ record { lo = plan.now.base; len = size _bytes.now _hooks.now } }
 {
     Range::new(plan.base, added_len(plan))
 }

@@ -1,11 +1,16 @@
-//! Files that are rewritten: how many sites they have, the code that stands for them, and where the added block lies, or
-//! that no place has room.
+//! Files that are rewritten: how many sites they have, the code that stands for them, which sites are counted, and where
+//! the added block lies, or that no place has room.
 
 ghost use Rattle.std.specs.Prelude.{◌≤◌, length};
+ghost use Rattle.counter_hooks.specs.Rules.{IsAscending, Tells, picked as is_picked};
 
 use crate::rewriting::{FILE_LIMIT, RewriteFault, Rewritten, rewrite};
+use counter_hooks::{Hooks, Question, Rule};
 use elf32_write::read_frame;
 use std::alloc::Global;
+use std::cell::Cell;
+use superset::Site;
+use x86_insn::Flow;
 
 /// A file with two headers: its code at 0x08048074, `mov eax, 1`, `mov ebx, 7`, `int 0x80`, and a page of zeros at
 /// 0x10000000 that can be read and written.
@@ -33,15 +38,29 @@ fn edited<const N: usize, const K: usize>(mut file: [u8; N], edits: [(usize, u8)
     file
 }
 
-/// The output of a file; else the size of the block that finds no room, or 0.
-fn rewritten(alloc: Global, file: &[u8]) -> Result<Rewritten, u64>
-    requires { length file.now ≤ FILE_LIMIT }
+/// The output of a file by a rule and a question that answers by it; else the size of the block that finds no room, or 0.
+fn rewritten_by<F: Question + Drop>(
+    alloc: Global,
+    file: &[u8],
+    rule: Rule,
+    ask: F,
+) -> Result<Rewritten, u64>
+    requires limit { length file.now ≤ FILE_LIMIT }
+    requires ascends { IsAscending rule }
+    requires tells { Tells (F.answers ask) (is_picked rule) }
 {
-    match rewrite(alloc, file) {
+    match rewrite(alloc, file, &Hooks::new(rule, ask)) {
         Ok(rewritten) => Ok(rewritten),
         Err(RewriteFault::NoRoom(size)) => Err(size),
         Err(RewriteFault::Image(_) | RewriteFault::NoMemory) => Err(0),
     }
+}
+
+/// The output of a file without counters; else the size of the block that finds no room, or 0.
+fn rewritten(alloc: Global, file: &[u8]) -> Result<Rewritten, u64>
+    requires { length file.now ≤ FILE_LIMIT }
+{
+    rewritten_by(alloc, file, Rule::None, |_: &Site| false)
 }
 
 /// The first added address of a file's output, and how many are added.
@@ -163,6 +182,48 @@ fn has_frame_whole_alone(alloc: Global, file: &[u8]) -> bool
 #[test]
 fn no_front_of_an_output_has_a_frame(rt: HostRuntime) {
     assert!(rt; has_frame_whole_alone(rt.alloc(), &ONE));
+}
+
+/// What a file's output counts where each `ret` is counted: how many sites, the first one's address, its entry and the
+/// place of its counter, and the entry of the address behind it.
+fn counted_returns(alloc: Global, file: &[u8]) -> Option<(u32, u32, u32, u32, u32)>
+    requires { length file.now ≤ FILE_LIMIT }
+{
+    let ask = |site: &Site| matches!(site.insn.next_kind(), Flow::Return);
+    let output = rewritten_by(alloc, file, Rule::Returns, ask).ok()?;
+    let frame = read_frame(output.bytes.as_slice())?;
+    if frame.counter_count() == 0 {
+        return None;
+    }
+    let address = frame.counted_at(0);
+    let behind = frame.map(address.wrapping_add(1));
+    Some((
+        output.counters,
+        address,
+        frame.map(address),
+        frame.counter_place(0),
+        behind,
+    ))
+}
+
+#[test]
+fn counts_a_return_in_front_of_its_piece(rt: HostRuntime) {
+    // `nop`, `ret`, which has a counter of 46 bytes and a piece of 11, and `hlt`. The private area is at 0x00104000.
+    let file = with_code([0x90, 0xC3, 0xF4]);
+    let counted = (1, 0x0804_8075, 0x0010_005C, 0x0010_4040, 0x0010_0095);
+    assert_eq!(rt; counted_returns(rt.alloc(), &file), Some(counted));
+}
+
+#[test]
+fn asks_twice_a_site(rt: HostRuntime) {
+    let asked = Cell::new(0u64);
+    let ask = |_: &Site| {
+        asked.set(asked.get().wrapping_add(1));
+        true
+    };
+    let output = rewritten_by(rt.alloc(), &ONE, Rule::All, ask);
+    assert!(rt; output.is_ok_and(|output| output.counters == 10 && output.sites == 10));
+    assert_eq!(rt; asked.get(), 20);
 }
 
 #[test]
