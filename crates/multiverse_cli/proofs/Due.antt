@@ -1,15 +1,15 @@
 -- From when an answer comes, to which one has to come.
-use Rattle.std.proofs.Common.{◌≡◌, ℕ, List, Option, Some, None, IsSomeAnd, IsTrue, sym, ◌∙◌, refl, subst, inl, inr}
+use Rattle.std.proofs.Common.{◌≡◌, ℕ, List, ◌∷◌, Option, Some, None, IsSomeAnd, IsTrue, sym, ◌∙◌, refl, subst, inl, inr}
 use Rattle.std.specs.List.{Contains}
 use Rattle.mv_base.specs.declared.status.Status.{Status}
 use Rattle.mv_base.specs.declared.status.Status.TheVariants.{Done, Usage, ReadFault, WriteFault, BadImage, NoRoom, BadLog, NoMemory, SinkFault, TooLarge}
 use Rattle.multiverse_cli.specs.declared.refusal.Defect.{Defect}
 use Rattle.multiverse_cli.specs.Commands.{Lacks, Delivers}
-use Rattle.multiverse_cli.specs.Answers.{IsOversized, AreRead, IsUnwritten, IsLacking, HasDelivery, LacksFor, Comes, ComesAt, ComesWithout, FirstDue, IsUnlessMemory, NoneUnread}
+use Rattle.multiverse_cli.specs.Answers.{IsOversized, AreRead, IsUnwritten, IsLacking, IsNext, IsUnread, HasDelivery, LacksFor, Comes, ComesAt, ComesWithout, FirstDue, IsUnlessMemory, NoneUnread}
 use Rattle.multiverse_cli.specs.Outside.{Stored, Printed, IsSinkFault}
 use Rattle.multiverse_cli.specs.Texts.{defect_status}
 use Rattle.multiverse_cli.specs.Words.{Asked}
-use Rattle.multiverse_cli.proofs.Inputs.{read-held, large-held, held-missing, read-oversized, read-large, read-one}
+use Rattle.multiverse_cli.proofs.Inputs.{first-next, next-among, read-held, large-held, held-missing, read-oversized, read-large, read-one}
 use Rattle.multiverse_cli.proofs.Verdicts.{SpellsOne, one-defect, defect-clash}
 
 module _ (one : SpellsOne) (a : Asked) (s : Stored) (k : Printed) (t : IsTrue s.tells) where
@@ -142,4 +142,12 @@ due-of one status (Some a) s k h =
 pub foreign-read : (a : Asked) (s : Stored) (k : Printed) → ¬ Contains a.reads s.failed → Comes ReadFault (Some a) s k → ⊥
 foreign-read a s k other h =
     let P : List ℕ → Type 0 = λ name. Contains a.reads name in
-    other (subst P (sym h.1.fault.failed) h.1.among)
+    other (subst P (sym h.1.fault.failed) (next-among s a.reads h.0 h.1.next))
+
+-- where the first file isn't held, it is the one that could not be read
+pub first-unread :
+    (a : Asked) (s : Stored) (first name : List ℕ) (rest : List (List ℕ)) → IsTrue s.tells → a.reads ≡ first ∷ rest
+    → s.before first ≡ None → IsUnread a s name → name ≡ first
+first-unread a s first name rest t reads missing h =
+    let P : List (List ℕ) → Type 0 = λ names. IsNext s names name in
+    first-next s t (first ∷ rest) first name rest refl missing (subst P reads h.next)

@@ -1,17 +1,16 @@
 -- From the reads of one file after the other, to the read of all.
-use Rattle.std.proofs.Common.{◌≡◌, ℕ, ◌+◌, ◌<◌, ◌≤◌, List, [], ◌∷◌, ◌++◌, length, take, get_or, Option, Some, None, Result, Ok, Err, IsSomeAnd, IsErrAnd, Vec, Global, String, string_bytes, sym, ◌∙◌, ap, subst, arith}
+use Rattle.std.proofs.Common.{◌≡◌, ℕ, ◌+◌, ◌<◌, ◌≤◌, List, [], ◌∷◌, ◌++◌, length, take, drop, get_or, Option, Some, None, Result, Ok, Err, IsSomeAnd, IsErrAnd, Vec, Global, String, string_bytes, sym, ◌∙◌, ap, subst, arith}
 use Rattle.std.specs.Borrow.{Bor}
-use Rattle.std.specs.List.{Contains}
 use Rattle.std.specs.Option.{option_or}
-use Rattle.std.proofs.lemmas.List.{map_more, get_or-map, length-map}
+use Rattle.std.proofs.lemmas.List.{map_more, map-append, take-append-drop, drop_more}
 use Rattle.multiverse_cli.specs.declared.failure.Failure.{Failure}
 use Rattle.multiverse_cli.specs.declared.failure.Failure.TheVariants as failure
 use Rattle.multiverse_cli.specs.declared.refusal.Refusal.TheVariants as refusal
-use Rattle.multiverse_cli.specs.Answers.{Fits, IsOversized, AllHeld, IsFirstOversized, Here, Later}
+use Rattle.multiverse_cli.specs.Answers.{Fits, IsOversized, AllHeld, IsFirstOversized, Here, Later, IsNext}
 use Rattle.multiverse_cli.specs.Outside.{Stored, Held, HeldAs}
 use Rattle.multiverse_cli.specs.Steps.{AreReadSoFar, ReadsFile, ReadsFiles}
 use Rattle.multiverse_cli.specs.Words.{texts}
-use Rattle.multiverse_cli.proofs.Inputs.{some-held, held-some, read-more, large-now, large-more}
+use Rattle.multiverse_cli.proofs.Inputs.{some-held, held-some, read-held, large-held, read-more, large-now, large-more, next-behind}
 
 -- ---- names
 
@@ -22,8 +21,18 @@ module _ (names : List (String Global)) (i : ℕ) (item : String Global) (n : Li
   pub one-more : texts (take (i + 1) names) ≡ texts (take i names) ++ n ∷ []
   one-more = map_more string_bytes names i item below ∙ ap (λ m. texts (take i names) ++ m ∷ []) this
 
-  pub among : Contains (texts names) n
-  among = (i, omega (arith, length-map names string_bytes), get_or-map string_bytes names i item n below ∙ this)
+  split : texts names ≡ texts (take i names) ++ n ∷ texts (drop (i + 1) names)
+  split =
+      ap texts (sym (take-append-drop i names))
+      ∙ map-append string_bytes (take i names) (drop i names)
+      ∙ ap (λ ns. texts (take i names) ++ texts ns) (drop_more names i item below)
+      ∙ ap (λ m. texts (take i names) ++ m ∷ texts (drop (i + 1) names)) this
+
+  -- the name is the next to be read, where all before it are held
+  pub next-name : (s : Stored) → AllHeld s (texts (take i names)) → IsNext s (texts names) n
+  next-name s held =
+      let P : List (List ℕ) → Type 0 = λ ns. IsNext s ns n in
+      subst P (sym split) (next-behind s (texts (take i names)) n (texts (drop (i + 1) names)) held)
 
 -- ---- a read within a longer call
 
@@ -40,6 +49,18 @@ held-as-whole : (w s : Stored) (n : List ℕ) (P : List ℕ → Type 0) → IsLa
 held-as-whole w s n P later h t =
     let Q : (List ℕ → Option (List ℕ)) → Type 0 = λ f. IsSomeAnd (f n) P in
     subst Q later.before (h (later.tells ∙ t))
+
+all-held-whole : (w s : Stored) (names : List (List ℕ)) → IsLaterRead w s → AllHeld w names → AllHeld s names
+all-held-whole w s [] later h = tt
+all-held-whole w s (n ∷ names) later h =
+    (held-as-whole w s n (λ b. Unit {0}) later h.0, all-held-whole w s names later h.1)
+
+-- the names that were read so far are held
+pub so-far-held :
+    (o : Option (Bor (List ℕ))) (w s : Stored) (names files : List (List ℕ)) → IsLaterRead w s
+    → AreReadSoFar o w names files → AllHeld s names
+so-far-held None w s names files later h = all-held-whole w s names later (read-held w names files h)
+so-far-held (Some m) w s names files later h = all-held-whole w s names later (large-held w names m.now h)
 
 -- a file more was read
 pub read-also :
@@ -73,11 +94,11 @@ so-far-same o o' s names names' files files' oe ne fe h =
 -- a file that was not read
 pub unread :
     (e : Failure) (w s : Stored) (names : List (List ℕ)) (n : List ℕ) → IsLaterRead w s → s.reads_after ≡ w.reads_after
-    → s.failed ≡ w.failed → Contains names n → ReadsFile (Err e) n w → ReadsFiles (Err e) names s
+    → s.failed ≡ w.failed → IsNext s names n → ReadsFile (Err e) n w → ReadsFiles (Err e) names s
 unread failure.NoMemory w s names n later after failed has h = tt
 unread (failure.Refused refusal.Usage) w s names n later after failed has h = absurd h
 unread (failure.Refused (refusal.ReadFault m)) w s names n later after failed has h =
-    let P : List ℕ → Type 0 = λ l. Contains names l in (
+    let P : List ℕ → Type 0 = λ l. IsNext s names l in (
       subst P (sym h.0) has,
       record {
         rose = λ below. let up = h.1.rose (λ e. below (after ∙ e)) in let first = later.reads_before in omega arith;
@@ -95,11 +116,6 @@ pub passes-read :
 passes-read (Ok files) e names s is h = absurd is
 passes-read (Err f) e names s is h =
     let P : Failure → Type 0 = λ g. ReadsFiles (Err g) names s in subst P (sym is) h
-
-all-held-whole : (w s : Stored) (names : List (List ℕ)) → IsLaterRead w s → AllHeld w names → AllHeld s names
-all-held-whole w s [] later h = tt
-all-held-whole w s (n ∷ names) later h =
-    (held-as-whole w s n (λ b. Unit {0}) later h.0, all-held-whole w s names later h.1)
 
 first-whole :
     (w s : Stored) (names : List (List ℕ)) (m : List ℕ) → IsLaterRead w s → IsFirstOversized w names m

@@ -3,7 +3,7 @@ use Rattle.std.proofs.Common.{◌≡◌, ℕ, zero, suc, ◌<◌, List, [], ◌�
 use Rattle.std.specs.List.{Contains}
 use Rattle.std.specs.Prelude.{slice_index_or}
 use Rattle.std.proofs.lemmas.Option.{same_Some}
-use Rattle.multiverse_cli.specs.Answers.{Fits, IsOversized, AreRead, AllHeld, IsFirstOversized, Here, Later}
+use Rattle.multiverse_cli.specs.Answers.{Fits, IsOversized, AreRead, AllHeld, IsFirstOversized, Here, Later, IsNext, First, After}
 use Rattle.multiverse_cli.specs.Outside.{Stored, Held, HeldAs}
 use Rattle.multiverse_cli.specs.Verdicts.{AllFit}
 
@@ -20,6 +20,10 @@ nothing o P e h = let Q : Option (List ℕ) → Type 0 = λ v. IsSomeAnd v P in 
 -- what is so of a value that is there
 present : (o : Option (List ℕ)) (P : List ℕ → Type 0) (b : List ℕ) → o ≡ Some b → P b → IsSomeAnd o P
 present o P b e h = let Q : Option (List ℕ) → Type 0 = λ v. IsSomeAnd v P in subst Q (sym e) h
+
+abbrev head-or : List ℕ → List (List ℕ) → List ℕ
+head-or other [] = other
+head-or other (n ∷ ns) = n
 
 anything : (o : Option (List ℕ)) (P : List ℕ → Type 0) → IsSomeAnd o P → IsSomeAnd o (λ b. Unit {0})
 anything None P h = h
@@ -60,6 +64,16 @@ module _ (s : Stored) where
   read-fit (n ∷ ns) [] h = absurd h
   read-fit (n ∷ ns) (b ∷ bs) h = (h.1, read-fit ns bs h.2)
 
+  -- a name behind some that are held is the next
+  pub next-behind : (ns : List (List ℕ)) (n : List ℕ) (rest : List (List ℕ)) → AllHeld s ns → IsNext s (ns ++ n ∷ rest) n
+  next-behind [] n rest h = First n rest
+  next-behind (m ∷ ns) n rest h = After m (ns ++ n ∷ rest) n h.0 (next-behind ns n rest h.1)
+
+  -- and one of them
+  pub next-among : (ns : List (List ℕ)) (m : List ℕ) → IsNext s ns m → Contains ns m
+  next-among _ _ (First n ns) = (0, omega arith, refl)
+  next-among _ _ (After n ns m held h) = let rest = next-among ns m h in (suc rest.0, omega (arith, rest.1), rest.2)
+
   -- ---- one name more
 
   pub read-more :
@@ -98,6 +112,14 @@ module _ (s : Stored) where
         go : (k : ℕ) → k < length (n ∷ ns) → slice_index_or (n ∷ ns) k name ≡ name → (Contains ns name → ⊥) → ⊥
         go zero l q rest = nothing (s.before n) (λ b. Unit {0}) (ap s.before q ∙ e) (h.0 t)
         go (suc k) l q rest = rest (k, omega arith, q)
+
+    -- the next is the first, where that isn't held
+    pub first-next :
+        (ns : List (List ℕ)) (first name : List ℕ) (rest : List (List ℕ)) → ns ≡ first ∷ rest → s.before first ≡ None
+        → IsNext s ns name → name ≡ first
+    first-next _ first _ rest e missing (First n ns) = ap (head-or first) e
+    first-next _ first _ rest e missing (After n ns m held h) =
+        absurd (nothing (s.before n) (λ b. Unit {0}) (ap (λ l. s.before (head-or first l)) e ∙ missing) (held t))
 
     -- what is read has not too many bytes
     pub read-oversized :

@@ -6,3 +6,7 @@ pub mod Numbers
 pub mod Tracing
 pub mod Due
 pub mod Writing
+pub mod Gathering
+pub mod Found
+pub mod Samples
+pub mod Lines

@@ -1,5 +1,5 @@
 -- From what was tried and what was reported, to what the answer means.
-use Rattle.std.proofs.Common.{◌≡◌, ℕ, ◌⊎◌, List, [], Option, Some, None, Result, Ok, Err, Vec, Global, refl, sym, ◌∙◌, ap, subst, inl, inr, append-nil}
+use Rattle.std.proofs.Common.{◌≡◌, ℕ, ◌⊎◌, List, [], Option, Some, None, Result, Ok, Err, refl, sym, ◌∙◌, ap, subst, inl, inr, append-nil}
 use Rattle.mv_base.specs.Holding.{KeepsOrBegins}
 use Rattle.mv_base.specs.declared.status.Status.{Status}
 use Rattle.mv_base.specs.declared.status.Status.TheVariants.{Done, Usage, ReadFault, WriteFault, BadImage, NoRoom, BadLog, NoMemory, SinkFault, TooLarge}
@@ -9,7 +9,9 @@ use Rattle.multiverse_cli.specs.declared.refusal.Defect.{Defect}
 use Rattle.multiverse_cli.specs.declared.refusal.Defect.TheVariants as defect
 use Rattle.multiverse_cli.specs.declared.refusal.Refusal.{Refusal}
 use Rattle.multiverse_cli.specs.declared.refusal.Refusal.TheVariants as refusal
+use Rattle.multiverse_cli.specs.declared.listing.Printout.{Printout}
 use Rattle.multiverse_cli.specs.Commands.{NewFile}
+use Rattle.multiverse_cli.specs.Listing.{printout_text}
 use Rattle.multiverse_cli.specs.Answers.{IsLacking, Stores, BeginsToStore, Comes, ComesAt, ComesWithout, Leaves, LeavesAt, Prints, PrintsAt, PrintsWithout, IsCutOff, OfMemory, OfRead, OfSize, OfDefect, OfWrite, OfDone, DeliversAll}
 use Rattle.multiverse_cli.specs.Outside.{Stored, Printed, KeepsAll, Says, SaysPart}
 use Rattle.multiverse_cli.specs.Steps.{Attempts, IsCarriedOut, PrintsText, PrintsRefusal, Refuses, Reports}
@@ -60,10 +62,10 @@ comes-without status why k e reported =
 
 -- when the answer may come
 pub comes-of :
-    (r : Result (Vec ℕ Global) Failure) (status : Status) (asked : Option Asked) (s : Stored) (k : Printed)
+    (r : Result Printout Failure) (status : Status) (asked : Option Asked) (s : Stored) (k : Printed)
     → Attempts r asked s → Reports status r k → Comes status asked s k
 comes-of (Ok text) status None s k tried reported = absurd tried
-comes-of (Ok text) status (Some a) s k tried reported = comes-text status a s k text.items tried reported
+comes-of (Ok text) status (Some a) s k tried reported = comes-text status a s k (printout_text text) tried reported
 comes-of (Err (failure.Refused why)) status None s k tried reported = comes-without status why k tried.0 reported
 comes-of (Err (failure.Refused why)) status (Some a) s k tried reported = comes-refused status why a s k tried reported
 comes-of (Err failure.NoMemory) status None s k tried reported = absurd tried
@@ -126,10 +128,10 @@ leaves-refused status why a s k h reported =
 
 -- what the answer leaves in the store
 pub leaves-of :
-    (r : Result (Vec ℕ Global) Failure) (status : Status) (asked : Option Asked) (s : Stored) (k : Printed)
+    (r : Result Printout Failure) (status : Status) (asked : Option Asked) (s : Stored) (k : Printed)
     → Attempts r asked s → Reports status r k → Leaves status asked s
 leaves-of (Ok text) status None s k tried reported = absurd tried
-leaves-of (Ok text) status (Some a) s k tried reported = leaves-text status a s k text.items tried reported
+leaves-of (Ok text) status (Some a) s k tried reported = leaves-text status a s k (printout_text text) tried reported
 leaves-of (Err (failure.Refused why)) status None s k tried reported = tried.1
 leaves-of (Err (failure.Refused why)) status (Some a) s k tried reported = leaves-refused status why a s k tried reported
 leaves-of (Err failure.NoMemory) status None s k tried reported = absurd tried
@@ -207,12 +209,12 @@ prints-without status why k e reported =
 
 -- what the answer has printed
 pub prints-of :
-    (r : Result (Vec ℕ Global) Failure) (status : Status) (asked : Option Asked) (s : Stored) (k : Printed)
+    (r : Result Printout Failure) (status : Status) (asked : Option Asked) (s : Stored) (k : Printed)
     → Attempts r asked s → Reports status r k → Prints status asked s k
 prints-of (Ok text) status None s k tried reported = absurd tried
 prints-of (Ok text) status (Some a) s k tried reported =
     let P : List ℕ → Type 0 = λ t. PrintsText status t k in
-    prints-text status a s k text.items tried (subst P tried.text_is reported)
+    prints-text status a s k (printout_text text) tried (subst P tried.text_is reported)
 prints-of (Err (failure.Refused why)) status None s k tried reported = prints-without status why k tried.0 reported
 prints-of (Err (failure.Refused why)) status (Some a) s k tried reported = prints-refused status why a s k tried reported
 prints-of (Err failure.NoMemory) status None s k tried reported = absurd tried
@@ -258,12 +260,12 @@ delivers-refused status why asked s k reported =
 
 -- what the answer delivers
 pub delivers-of :
-    (r : Result (Vec ℕ Global) Failure) (status : Status) (asked : Option Asked) (s : Stored) (k : Printed)
+    (r : Result Printout Failure) (status : Status) (asked : Option Asked) (s : Stored) (k : Printed)
     → Attempts r asked s → Reports status r k → DeliversAll status asked s k
 delivers-of (Ok text) status None s k tried reported = absurd tried
 delivers-of (Ok text) status (Some a) s k tried reported =
     let P : List ℕ → Type 0 = λ t. PrintsText status t k in
-    delivers-text status a s k text.items tried (subst P tried.text_is reported)
+    delivers-text status a s k (printout_text text) tried (subst P tried.text_is reported)
 delivers-of (Err (failure.Refused why)) status asked s k tried reported = delivers-refused status why asked s k reported
 delivers-of (Err failure.NoMemory) status asked s k tried reported =
     let P : Status → Type 0 = λ st. DeliversAll st asked s k in subst P (sym reported.0) tt

@@ -2,6 +2,7 @@
 use Rattle.std.proofs.Common.{◌≡◌, ℕ, List, [], ◌∷◌, Option, Some, None, IsSome, is_some, false, Ok, Err, refl, sym, ◌∙◌, ap, subst, subst₂}
 use Rattle.std.specs.Option.{option_map}
 use Rattle.elf32_read.specs.declared.fault.ImageFault.{ImageFault}
+use Rattle.elf32_read.specs.Faults.{refusal}
 use Rattle.mv_rewrite.specs.Layout.{base_of}
 use Rattle.syscall_log.specs.declared.answer.Answer.{Answer}
 use Rattle.syscall_log.specs.declared.log.Log.{Log}
@@ -13,16 +14,16 @@ use Rattle.trace_run.specs.Reports.{IsBeyond}
 use Rattle.trace_run.specs.laws.OneTrace.{one_outcome}
 use Rattle.multiverse_cli.specs.declared.refusal.Defect.{Defect}
 use Rattle.multiverse_cli.specs.declared.refusal.Defect.TheVariants.{BadImage, BadLog, TooLarge, NoRoom}
-use Rattle.multiverse_cli.specs.Commands.{NewFile, Delivery, IsRewritable, IsNotRewritten, IsNotTraced, IsTracing, Lacks, Delivers}
+use Rattle.multiverse_cli.specs.Commands.{NewFile, Delivery, IsRewritable, IsNotRewritten, IsNotTraced, IsTracing, IsNotListed, Lacks, Delivers}
 use Rattle.multiverse_cli.specs.Texts.{defect_status}
-use Rattle.multiverse_cli.specs.Words.{Work, ToRewrite, ToTrace, output_of}
+use Rattle.multiverse_cli.specs.Words.{Work, ToRewrite, ToTrace, ToList, ToSample, output_of}
 
 -- a value that isn't there is none
-absent : {A : Type 0} (o : Option A) → o ≡ None → IsSome o → ⊥
+pub absent : {A : Type 0} (o : Option A) → o ≡ None → IsSome o → ⊥
 absent o e h = let none : is_some o ≡ false = ap is_some e in cc
 
 -- a first fault that is there, and none
-fault-none : (o : Option ImageFault) (fault : ImageFault) → o ≡ None → o ≡ Some fault → ⊥
+pub fault-none : (o : Option ImageFault) (fault : ImageFault) → o ≡ None → o ≡ Some fault → ⊥
 fault-none o fault none some = let e : None ≡ Some fault = sym none ∙ some in cc
 
 -- ---- rewrite
@@ -94,6 +95,23 @@ trace-clash one steps b l (TooLarge n) d h k =
     (same-log one h.log k.log P (sym h.traceable.spelled ∙ k.traceable.spelled) h.beyond)
 trace-clash one steps b l (NoRoom n) d h k = h
 
+-- ---- list
+
+list-one : (b : List ℕ) (why other : Defect) → IsNotListed b why → IsNotListed b other → defect_status why ≡ defect_status other
+list-one b (BadImage f) (BadImage g) h k = refl
+list-one b (BadImage f) (BadLog n) h k = absurd k
+list-one b (BadImage f) (TooLarge n) h k = absurd k
+list-one b (BadImage f) (NoRoom n) h k = absurd k
+list-one b (BadLog n) other h k = absurd h
+list-one b (TooLarge n) other h k = absurd h
+list-one b (NoRoom n) other h k = absurd h
+
+list-clash : (b : List ℕ) (why : Defect) → IsNotListed b why → refusal b ≡ None → ⊥
+list-clash b (BadImage f) h k = fault-none _ f k h
+list-clash b (BadLog n) h k = h
+list-clash b (TooLarge n) h k = h
+list-clash b (NoRoom n) h k = h
+
 -- ---- all commands
 
 -- two defects have one answer
@@ -107,6 +125,11 @@ one-defect (ToTrace steps) [] why other h k = absurd h
 one-defect (ToTrace steps) (b ∷ []) why other h k = absurd h
 one-defect (ToTrace steps) (b ∷ l ∷ []) why other h k = trace-one steps b l why other h k
 one-defect (ToTrace steps) (b ∷ l ∷ c ∷ files) why other h k = absurd h
+one-defect ToList [] why other h k = absurd h
+one-defect ToList (b ∷ []) why other h k = list-one b why other h k
+one-defect ToList (b ∷ c ∷ files) why other h k = absurd h
+one-defect (ToSample number size output) [] why other h k = absurd h
+one-defect (ToSample number size output) (b ∷ files) why other h k = absurd h
 
 -- files that lack something have nothing that is delivered over them
 pub defect-clash : SpellsOne → (w : Work) (files : List (List ℕ)) (why : Defect) (d : Delivery) → Lacks w files why → Delivers w files d → ⊥
@@ -117,6 +140,11 @@ defect-clash one (ToTrace steps) [] why d h k = h
 defect-clash one (ToTrace steps) (b ∷ []) why d h k = h
 defect-clash one (ToTrace steps) (b ∷ l ∷ []) why d h k = trace-clash one steps b l why d h k
 defect-clash one (ToTrace steps) (b ∷ l ∷ c ∷ files) why d h k = h
+defect-clash one ToList [] why d h k = h
+defect-clash one ToList (b ∷ []) why d h k = list-clash b why h k.sound
+defect-clash one ToList (b ∷ c ∷ files) why d h k = h
+defect-clash one (ToSample number size output) [] why d h k = h
+defect-clash one (ToSample number size output) (b ∷ files) why d h k = h
 
 -- the file that is delivered has the name that the command writes
 pub output-named :
@@ -129,3 +157,8 @@ output-named (ToTrace steps) [] d f h e = absurd h
 output-named (ToTrace steps) (b ∷ []) d f h e = absurd h
 output-named (ToTrace steps) (b ∷ l ∷ []) d f h e = let clash : None ≡ Some f = sym h.file_is ∙ e in cc
 output-named (ToTrace steps) (b ∷ l ∷ c ∷ files) d f h e = absurd h
+output-named ToList [] d f h e = absurd h
+output-named ToList (b ∷ []) d f h e = let clash : None ≡ Some f = sym h.file_is ∙ e in cc
+output-named ToList (b ∷ c ∷ files) d f h e = absurd h
+output-named (ToSample number size output) [] d f h e = ap (option_map (λ g. g.name)) (sym h.file_is ∙ e)
+output-named (ToSample number size output) (b ∷ files) d f h e = absurd h

@@ -1,5 +1,5 @@
 -- From what reading, the verdict and writing did, to what the command did.
-use Rattle.std.proofs.Common.{◌≡◌, ℕ, List, Option, Some, Result, Ok, Err, IsErrAnd, Vec, Global, sym, ◌∙◌, ap, subst, inl, inr}
+use Rattle.std.proofs.Common.{◌≡◌, ℕ, List, Option, Some, Result, Ok, Err, IsErrAnd, sym, ◌∙◌, ap, subst, inl, inr}
 use Rattle.mv_base.specs.Holding.{KeepsOrBegins}
 use Rattle.mv_base.specs.Faults.{Rose}
 use Rattle.multiverse_cli.specs.declared.failure.Failure.{Failure}
@@ -7,6 +7,7 @@ use Rattle.multiverse_cli.specs.declared.failure.Failure.TheVariants as failure
 use Rattle.multiverse_cli.specs.declared.failure.Objection.{Objection}
 use Rattle.multiverse_cli.specs.declared.failure.Objection.TheVariants as objection
 use Rattle.multiverse_cli.specs.declared.refusal.Refusal.TheVariants as refusal
+use Rattle.multiverse_cli.specs.declared.listing.Printout.{Printout}
 use Rattle.multiverse_cli.specs.Commands.{NewFile, Delivery}
 use Rattle.multiverse_cli.specs.Answers.{AreRead, IsDelivery, BeginsToStore, HasBegun}
 use Rattle.multiverse_cli.specs.Failures.{failure_of}
@@ -83,7 +84,7 @@ pub unread-whole :
     (e : Failure) (a : Asked) (s : Stored) → KeepsAll s → ReadsFiles (Err e) a.reads s → Carries (Err e) a s
 unread-whole failure.NoMemory a s keeps h = inl keeps
 unread-whole (failure.Refused refusal.Usage) a s keeps h = absurd h
-unread-whole (failure.Refused (refusal.ReadFault n)) a s keeps h = (record { among = h.0; fault = h.1 }, keeps)
+unread-whole (failure.Refused (refusal.ReadFault n)) a s keeps h = (record { next = h.0; fault = h.1 }, keeps)
 unread-whole (failure.Refused (refusal.TooLarge n)) a s keeps h = (h, keeps)
 unread-whole (failure.Refused (refusal.Lacking why)) a s keeps h = absurd h
 unread-whole (failure.Refused (refusal.WriteFault n)) a s keeps h = absurd h
@@ -97,7 +98,7 @@ objects-whole objection.NoMemory a s files keeps read h = inl keeps
 
 -- an error that was passed on is what the command comes to
 pub passes-on :
-    (r : Result (Vec ℕ Global) Failure) (e : Failure) (a : Asked) (s : Stored) → IsErrAnd r (λ f. f ≡ e)
+    (r : Result Printout Failure) (e : Failure) (a : Asked) (s : Stored) → IsErrAnd r (λ f. f ≡ e)
     → Carries (Err e) a s → Carries r a s
 passes-on (Ok text) e a s is h = absurd is
 passes-on (Err f) e a s is h = let P : Failure → Type 0 = λ g. Carries (Err g) a s in subst P (sym is) h

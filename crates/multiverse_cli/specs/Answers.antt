@@ -40,9 +40,15 @@ pub data IsFirstOversized (s : Stored) : List (List ℕ) → List ℕ → Type 0
       (n : List ℕ) (ns : List (List ℕ)) (m : List ℕ) → HeldAs s n Fits → IsFirstOversized s ns m
       → IsFirstOversized s (n ∷ ns) m
 
--- a file that the command reads could not be read
+-- a name is one of these, and all before it could be read: where the store tells, they held something at entry
+pub data IsNext (s : Stored) : List (List ℕ) → List ℕ → Type 0 where
+  First : (n : List ℕ) (ns : List (List ℕ)) → IsNext s (n ∷ ns) n
+  After :
+      (n : List ℕ) (ns : List (List ℕ)) (m : List ℕ) → HeldAs s n (λ b. Unit {0}) → IsNext s ns m → IsNext s (n ∷ ns) m
+
+-- a file that the command reads could not be read, and is the first such
 pub record IsUnread (a : Asked) (s : Stored) (name : List ℕ) : Type 0 where
-  pub among : Contains a.reads name
+  pub next : IsNext s a.reads name
   pub fault : IsReadFault s name
 
 -- the file that the command writes could not be written

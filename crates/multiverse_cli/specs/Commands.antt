@@ -16,8 +16,10 @@ use Rattle.trace_run.specs.Reports.{IsReport, IsBeyond}
 use Rattle.trace_run.specs.Texts.{text_of as report_text}
 use Rattle.multiverse_cli.specs.declared.refusal.Defect.{Defect}
 use Rattle.multiverse_cli.specs.declared.refusal.Defect.TheVariants.{BadImage, BadLog, TooLarge, NoRoom}
-use Rattle.multiverse_cli.specs.Texts.{rewritten_text}
-use Rattle.multiverse_cli.specs.Words.{Work, ToRewrite, ToTrace}
+use Rattle.multiverse_cli.specs.Listing.{listing}
+use Rattle.multiverse_cli.specs.Sample.{sample}
+use Rattle.multiverse_cli.specs.Texts.{rewritten_text, sample_text}
+use Rattle.multiverse_cli.specs.Words.{Work, ToRewrite, ToTrace, ToList, ToSample}
 
 -- a file that a command writes
 pub record NewFile : Type 0 where
@@ -99,16 +101,43 @@ pub record IsTracing (steps : ℕ) (b l : List ℕ) (d : Delivery) : Type 0 wher
   pub text_is : d.text ≡ report_text report
   pub file_is : d.file ≡ None
 
+-- ---- list
+
+-- why the sites of an image are not listed: its first fault
+abbrev pub IsNotListed : List ℕ → Defect → Type 0
+IsNotListed b (BadImage fault) = refusal b ≡ Some fault
+IsNotListed b (BadLog line) = ⊥
+IsNotListed b (TooLarge n) = ⊥
+IsNotListed b (NoRoom n) = ⊥
+
+-- each site of the image has its line, and no file is written
+pub record IsListing (b : List ℕ) (d : Delivery) : Type 0 where
+  pub sound : refusal b ≡ None
+  pub text_is : d.text ≡ listing b
+  pub file_is : d.file ≡ None
+
+-- ---- sample
+
+-- the one output of a sample is written, and three lines are printed
+pub record IsSampling (number size : ℕ) (output : List ℕ) (d : Delivery) : Type 0 where
+  pub bytes : List ℕ
+  pub rewrites : Rewrites (sample number size) bytes
+  pub text_is : d.text ≡ sample_text (length (sites (sample number size))) (length (sample number size)) (length bytes)
+  pub file_is : d.file ≡ Some (record { name = output; bytes = bytes })
+
 -- ---- all commands
 
 -- why nothing is delivered over the bytes of the files that are read
 abbrev pub Lacks : Work → List (List ℕ) → Defect → Type 0
 Lacks (ToRewrite output) (b ∷ []) why = IsNotRewritten b why
 Lacks (ToTrace steps) (b ∷ l ∷ []) why = IsNotTraced steps b l why
+Lacks ToList (b ∷ []) why = IsNotListed b why
 Lacks work inputs why = ⊥
 
 -- what is delivered over the bytes of the files that are read
 abbrev pub Delivers : Work → List (List ℕ) → Delivery → Type 0
 Delivers (ToRewrite output) (b ∷ []) d = IsRewriting output b d
 Delivers (ToTrace steps) (b ∷ l ∷ []) d = IsTracing steps b l d
+Delivers ToList (b ∷ []) d = IsListing b d
+Delivers (ToSample number size output) [] d = IsSampling number size output d
 Delivers work inputs d = ⊥

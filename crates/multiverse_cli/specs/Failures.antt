@@ -1,4 +1,5 @@
 -- How the faults of the crates below become the program's refusals.
+use Rattle.elf32_read.specs.declared.fault.ImageFault.{ImageFault}
 use Rattle.elf32_read.specs.declared.reader.ReadImage.{ReadImage}
 use Rattle.elf32_read.specs.declared.reader.ReadImage.TheVariants as reading
 use Rattle.mv_rewrite.specs.declared.rewriting.RewriteFault.{RewriteFault}
@@ -18,6 +19,9 @@ use Rattle.multiverse_cli.specs.declared.refusal.Refusal.TheVariants as refusal
 abbrev pub unread_image : ReadImage → Objection
 unread_image (reading.Bad fault) = objection.Lacking (defect.BadImage fault)
 unread_image reading.NoMemory = objection.NoMemory
+
+abbrev pub not_admitted : ImageFault → Objection
+not_admitted fault = objection.Lacking (defect.BadImage fault)
 
 abbrev pub unread_log : LogFault → Objection
 unread_log (log.Line n) = objection.Lacking (defect.BadLog n)

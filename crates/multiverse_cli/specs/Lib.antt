@@ -2,7 +2,9 @@
 pub mod Answers
 pub mod Commands
 pub mod Failures
+pub mod Listing
 pub mod Outside
+pub mod Sample
 pub mod Steps
 pub mod Texts
 pub mod Verdicts

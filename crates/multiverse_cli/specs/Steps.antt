@@ -1,7 +1,8 @@
 -- What the steps of a run have come to.
-use Rattle.std.specs.Prelude.{◌≡◌, ℕ, ◌⊎◌, IsTrue, List, Contains, Option, Some, None, Result, Ok, Err, Vec}
+use Rattle.std.specs.Prelude.{◌≡◌, ℕ, ◌⊎◌, ◌++◌, IsTrue, List, Option, Some, None, Result, Ok, Err, Vec}
 use Rattle.std.specs.Borrow.{Bor}
 use Rattle.std.specs.declared.alloc.Global.{Global}
+use Rattle.mv_base.specs.Appended.{AppendsPrefix}
 use Rattle.mv_base.specs.Holding.{KeepsOrBegins}
 use Rattle.mv_base.specs.declared.status.Status.{Status}
 use Rattle.mv_base.specs.declared.status.Status.TheVariants as status
@@ -9,11 +10,13 @@ use Rattle.multiverse_cli.specs.declared.refusal.Refusal.{Refusal}
 use Rattle.multiverse_cli.specs.declared.refusal.Refusal.TheVariants as refusal
 use Rattle.multiverse_cli.specs.declared.failure.Failure.{Failure}
 use Rattle.multiverse_cli.specs.declared.failure.Failure.TheVariants as failure
+use Rattle.multiverse_cli.specs.declared.listing.Printout.{Printout}
+use Rattle.multiverse_cli.specs.Listing.{printout_text}
 use Rattle.multiverse_cli.specs.Outside.{Stored, Printed, IsReadFault, IsWriteFault, IsSinkFault, KeepsAll, Held, Holds, HeldAs, SaysAll, SaysPart, Says}
 use Rattle.multiverse_cli.specs.Words.{Asked}
 use Rattle.multiverse_cli.specs.Commands.{Delivery}
 use Rattle.multiverse_cli.specs.Texts.{message_of, memory_message, status_of}
-use Rattle.multiverse_cli.specs.Answers.{Fits, IsOversized, AreRead, IsFirstOversized, IsUnread, IsUnwritten, IsLacking, IsDelivery, Stores, HasBegun}
+use Rattle.multiverse_cli.specs.Answers.{Fits, IsOversized, AreRead, IsFirstOversized, IsNext, IsUnread, IsUnwritten, IsLacking, IsDelivery, Stores, HasBegun}
 
 -- a command was refused, for a reason that the store shows
 abbrev pub Refuses : Refusal → Asked → Stored → Type 0
@@ -31,21 +34,26 @@ pub record IsCarriedOut (a : Asked) (s : Stored) (text : List ℕ) : Type 0 wher
   pub text_is : text ≡ delivery.text
 
 -- a command stored what it delivers, or was refused, or memory ran out
-abbrev pub Carries : Result (Vec ℕ Global) Failure → Asked → Stored → Type 0
-Carries (Ok text) a s = IsCarriedOut a s text.items
+abbrev pub Carries : Result Printout Failure → Asked → Stored → Type 0
+Carries (Ok text) a s = IsCarriedOut a s (printout_text text)
 Carries (Err (failure.Refused why)) a s = Refuses why a s
 Carries (Err failure.NoMemory) a s = KeepsAll s ⊎ HasBegun a s
 
 -- without a command, nothing was done but to refuse the words
-abbrev pub CarriesNothing : Result (Vec ℕ Global) Failure → Stored → Type 0
+abbrev pub CarriesNothing : Result Printout Failure → Stored → Type 0
 CarriesNothing (Ok text) s = ⊥
 CarriesNothing (Err (failure.Refused why)) s = (why ≡ refusal.Usage) × KeepsAll s
 CarriesNothing (Err failure.NoMemory) s = ⊥
 
 -- what the words ask for was tried
-abbrev pub Attempts : Result (Vec ℕ Global) Failure → Option Asked → Stored → Type 0
+abbrev pub Attempts : Result Printout Failure → Option Asked → Stored → Type 0
 Attempts r None s = CarriesNothing r s
 Attempts r (Some a) s = Carries r a s
+
+-- a piece of text was put if it was full, and what of it is left; where that failed, a part of it was put
+abbrev pub PutsFull : {A E : Type 0} → Result A E → List ℕ → List ℕ → List ℕ → List ℕ → Type 0
+PutsFull (Ok _) piece left before after = (done : List ℕ) × (after ≡ before ++ done) × (piece ≡ done ++ left)
+PutsFull (Err _) piece left before after = AppendsPrefix before after piece
 
 -- a text was printed: whole, or a part of it
 abbrev pub PrintsText : Status → List ℕ → Printed → Type 0
@@ -75,8 +83,8 @@ abbrev pub PrintsRefusal : Status → Refusal → Printed → Type 0
 PrintsRefusal answer why k = IsRefused answer why k ⊎ IsStarved answer why k
 
 -- what was tried was reported
-abbrev pub Reports : Status → Result (Vec ℕ Global) Failure → Printed → Type 0
-Reports answer (Ok text) k = PrintsText answer text.items k
+abbrev pub Reports : Status → Result Printout Failure → Printed → Type 0
+Reports answer (Ok text) k = PrintsText answer (printout_text text) k
 Reports answer (Err (failure.Refused why)) k = PrintsRefusal answer why k
 Reports answer (Err failure.NoMemory) k = (answer ≡ status.NoMemory) × SaysPart k memory_message
 
@@ -100,7 +108,7 @@ AreReadSoFar (Some n) s names files = IsFirstOversized s names n.now
 abbrev pub ReadsFiles : Result (Vec (List ℕ) Global) Failure → List (List ℕ) → Stored → Type 0
 ReadsFiles (Ok files) names s = AreRead s names files.items
 ReadsFiles (Err (failure.Refused refusal.Usage)) names s = ⊥
-ReadsFiles (Err (failure.Refused (refusal.ReadFault n))) names s = Contains names n.now × IsReadFault s n.now
+ReadsFiles (Err (failure.Refused (refusal.ReadFault n))) names s = IsNext s names n.now × IsReadFault s n.now
 ReadsFiles (Err (failure.Refused (refusal.TooLarge n))) names s = IsFirstOversized s names n.now
 ReadsFiles (Err (failure.Refused (refusal.Lacking why))) names s = ⊥
 ReadsFiles (Err (failure.Refused (refusal.WriteFault n))) names s = ⊥

@@ -26,6 +26,11 @@ added_line lo len = line (codes "added " ++ hex8 lo ++ codes " " ++ hex8 len)
 abbrev pub rewritten_text : ℕ → ℕ → ℕ → ℕ → List ℕ
 rewritten_text sites lo len counters = count_line (codes "sites") sites ++ added_line lo len ++ count_line (codes "counters") counters
 
+-- what a sample prints when it is done: the number of sites, and how many bytes the image and the output have
+abbrev pub sample_text : ℕ → ℕ → ℕ → List ℕ
+sample_text sites input output =
+    count_line (codes "sites") sites ++ count_line (codes "input") input ++ count_line (codes "output") output
+
 -- a name for a fault, as it is printed
 abbrev pub fault_name : ImageFault → List ℕ
 fault_name ShortHeader = codes "ShortHeader"

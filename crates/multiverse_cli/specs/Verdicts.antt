@@ -9,6 +9,7 @@ use Rattle.multiverse_cli.specs.declared.verdict.NewFile.{NewFile as OwnFile}
 use Rattle.multiverse_cli.specs.declared.verdict.Delivery.{Delivery as OwnDelivery}
 use Rattle.multiverse_cli.specs.Commands.{NewFile, Delivery, Lacks, Delivers}
 use Rattle.multiverse_cli.specs.Answers.{Fits}
+use Rattle.multiverse_cli.specs.Listing.{printout_text}
 use Rattle.multiverse_cli.specs.Words.{Work}
 
 -- the code's own types
@@ -16,7 +17,7 @@ abbrev pub file_of : OwnFile → NewFile
 file_of f = record { name = f.name.now; bytes = f.bytes }
 
 abbrev pub delivery_of : OwnDelivery → Delivery
-delivery_of d = record { text = d.text.items; file = option_map file_of d.file }
+delivery_of d = record { text = printout_text d.text; file = option_map file_of d.file }
 
 -- each file is within the limit
 abbrev pub AllFit : List (List ℕ) → Type 0

@@ -1,20 +1,23 @@
 -- The words of a command. This project's own. A word is the list of its bytes.
-use Rattle.std.specs.Prelude.{ℕ, ◌^◌, Bool, not, ◌&&◌, nat_lt, List, [], ◌∷◌, map, Option, Some, None, if◌then◌else◌, codes, decimal, String, string_bytes}
+use Rattle.std.specs.Prelude.{ℕ, ◌-◌, ◌^◌, ◌≤◌, Bool, not, ◌&&◌, nat_lt, nat_le, List, [], ◌∷◌, map, Option, Some, None, if◌then◌else◌, codes, decimal, String, string_bytes}
 use Rattle.std.specs.Str.{bytes_eq}
 use Rattle.std.specs.Str.Parse.{digits_value}
 use Rattle.std.specs.List.{starts_with}
-use Rattle.std.specs.Option.{option_map}
+use Rattle.std.specs.Option.{option_map, option_and_then}
 use Rattle.std.specs.Prelude.{nat_eq}
 use Rattle.std.specs.declared.alloc.Global.{Global}
 use Rattle.multiverse_cli.specs.declared.words.Command.{Command}
 use Rattle.multiverse_cli.specs.declared.words.Task.{Task}
-use Rattle.multiverse_cli.specs.declared.words.Task.TheVariants.{Rewrite, Trace}
+use Rattle.multiverse_cli.specs.declared.words.Task.TheVariants.{Rewrite, Trace, Listing, Sample}
 
--- what is done with the files that a command reads: the rewritten image is written to this name, or the image is run on
--- the log for at most so many steps
+-- what is done with the files that a command reads: the rewritten image is written to this name; or the image is run on
+-- the log for at most so many steps; or its sites are listed; or no file is read, and the rewritten sample of a number,
+-- with so many bytes of code, is written to this name
 pub data Work : Type 0 where
   ToRewrite : (output : List ℕ) → Work
   ToTrace : (steps : ℕ) → Work
+  ToList : Work
+  ToSample : (number size : ℕ) (output : List ℕ) → Work
 
 -- what the program is asked: which files it reads, by their names in order, and what is done with them
 pub record Asked : Type 0 where
@@ -25,11 +28,26 @@ pub record Asked : Type 0 where
 abbrev pub input_count : Work → ℕ
 input_count (ToRewrite output) = 1
 input_count (ToTrace steps) = 2
+input_count ToList = 1
+input_count (ToSample number size output) = 0
 
 -- the name that is written
 abbrev pub output_of : Work → Option (List ℕ)
 output_of (ToRewrite output) = Some output
 output_of (ToTrace steps) = None
+output_of ToList = None
+output_of (ToSample number size output) = Some output
+
+-- how many bytes of code a sample has at most: 1 MiB
+abbrev pub largest_sample : ℕ
+largest_sample = 1048576
+
+-- a sample has at least one byte of code, and no more than these
+abbrev pub HasSize : Work → Type 0
+HasSize (ToRewrite output) = Unit {0}
+HasSize (ToTrace steps) = Unit {0}
+HasSize ToList = Unit {0}
+HasSize (ToSample number size output) = (1 ≤ size) × (size ≤ largest_sample)
 
 -- the bytes of each word
 abbrev pub texts : List (String Global) → List (List ℕ)
@@ -45,6 +63,11 @@ number_of word =
     let n = digits_value 10 word in
     if nat_lt n (2 ^ 64) && bytes_eq word (decimal n) then Some n else None
 
+-- the same of a number of a range
+abbrev pub number_within : ℕ → ℕ → List ℕ → Option ℕ
+number_within low high word =
+    option_and_then (λ n. if nat_le low n && nat_le n high then Some n else None) (number_of word)
+
 -- `rewrite` and two names
 abbrev pub rewrite_words : List (List ℕ) → Option Asked
 rewrite_words (command ∷ input ∷ output ∷ []) =
@@ -59,6 +82,24 @@ trace_words (command ∷ input ∷ log ∷ steps ∷ []) =
     then option_map (λ n. record { reads = input ∷ log ∷ []; work = ToTrace n }) (number_of steps) else None
 trace_words _ = None
 
+-- `list` and a name
+abbrev pub list_words : List (List ℕ) → Option Asked
+list_words (command ∷ input ∷ []) =
+    if bytes_eq command (codes "list") && is_name input then Some (record { reads = input ∷ []; work = ToList }) else None
+list_words _ = None
+
+-- what a sample asks for, where there are both numbers
+abbrev pub sample_asked : List ℕ → Option ℕ → Option ℕ → Option Asked
+sample_asked output number size =
+    option_and_then (λ n. option_map (λ k. record { reads = []; work = ToSample n k output }) size) number
+
+-- `sample`, a number below 2^32, a number of bytes, and a name
+abbrev pub sample_words : List (List ℕ) → Option Asked
+sample_words (command ∷ number ∷ size ∷ output ∷ []) =
+    if bytes_eq command (codes "sample") && is_name output
+    then sample_asked output (number_within 0 (2 ^ 32 - 1) number) (number_within 1 largest_sample size) else None
+sample_words _ = None
+
 -- the first of two commands that is there
 abbrev pub or_asked : Option Asked → Option Asked → Option Asked
 or_asked (Some a) other = Some a
@@ -66,12 +107,15 @@ or_asked None other = other
 
 -- what the words ask for; none where they are no command
 abbrev pub asked_of : List (List ℕ) → Option Asked
-asked_of words = or_asked (rewrite_words words) (trace_words words)
+asked_of words =
+    or_asked (or_asked (or_asked (rewrite_words words) (trace_words words)) (list_words words)) (sample_words words)
 
 -- the same of a command that was read from words
 abbrev pub work_of : Task → Work
 work_of (Rewrite output) = ToRewrite output.now
 work_of (Trace steps) = ToTrace steps
+work_of Listing = ToList
+work_of (Sample number size output) = ToSample number size output.now
 
 abbrev pub asked : Command → Asked
 asked c = record { reads = texts c.reads.now; work = work_of c.task }

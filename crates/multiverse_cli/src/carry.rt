@@ -3,9 +3,10 @@
 ghost use Rattle.std.specs.Prelude.{◌≡◌, ◌≢◌, ◌≤◌, ℕ, List, length};
 ghost use Rattle.multiverse_cli.specs.Outside.{KeepsOthers, stored};
 ghost use Rattle.multiverse_cli.specs.Steps.{Attempts, Carries, ReadsFile, ReadsFiles, WritesFile};
-ghost use Rattle.multiverse_cli.specs.Words.{asked, asked_of, input_count, texts, work_of};
+ghost use Rattle.multiverse_cli.specs.Words.{HasSize, asked, asked_of, input_count, texts, work_of};
 
 use crate::failure::Failure;
+use crate::listing::Printout;
 use crate::refusal::Refusal;
 use crate::verdict::verdict;
 use crate::words::{Command, read_command};
@@ -13,12 +14,12 @@ use mv_base::{Bytes, Got, Store, StoreFault};
 use mv_rewrite::FILE_LIMIT;
 use std::alloc::Global;
 
-/// Does what the words ask for, and gives the text that is to be printed.
+/// Does what the words ask for, and gives what is to be printed.
 pub fn attempt<'a, S: Store>(
     alloc: Global,
     words: &'a [String],
     store: &mut S,
-) -> Result<Vec<u8>, Failure<'a>>
+) -> Result<Printout, Failure<'a>>
     ensures { Attempts result (asked_of (texts words.now)) (stored S.Store store.old store.new) }
 {
     match read_command(words) {
@@ -33,8 +34,9 @@ fn carry_out<'a, S: Store>(
     alloc: Global,
     command: &Command<'a>,
     store: &mut S,
-) -> Result<Vec<u8>, Failure<'a>>
-    requires { length command.now.reads.now ≡ input_count (work_of command.now.task) }
+) -> Result<Printout, Failure<'a>>
+    requires inputs { length command.now.reads.now ≡ input_count (work_of command.now.task) }
+    requires sized { HasSize (work_of command.now.task) }
     ensures { Carries result (asked command.now) (stored S.Store store.old store.new) }
 {
     let files = read_files(alloc, command.reads, store)?;

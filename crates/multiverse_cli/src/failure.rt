@@ -1,7 +1,7 @@
 //! Why a command stops before anything is printed.
 
 use crate::refusal::{Defect, Refusal};
-use elf32_read::ReadImage;
+use elf32_read::{ImageFault, ReadImage};
 use mv_base::NoMemory;
 use mv_rewrite::RewriteFault;
 use std::alloc::AllocFailed;
@@ -39,6 +39,17 @@ impl From<ReadImage> for Objection {
             ReadImage::Bad(fault) => Objection::Lacking(Defect::BadImage(fault)),
             ReadImage::NoMemory => Objection::NoMemory,
         }
+    }
+}
+
+impl From<ImageFault> for Objection {
+    ghost use Rattle.std.specs.Prelude.{◌≡◌};
+    ghost use Rattle.multiverse_cli.specs.Failures.{not_admitted};
+
+    ghost from_gives = { λ fault f. f ≡ not_admitted fault };
+
+    fn from(fault: ImageFault) -> Self {
+        Objection::Lacking(Defect::BadImage(fault))
     }
 }
 

@@ -5,6 +5,8 @@
 //! - `carry`: reading, the verdict and writing, over any store, up to the text that is printed.
 //! - `refusal`, `failure`: why it is not done.
 //! - `texts`: what is printed, as bytes.
+//! - `listing`: the lines of sites, which are printed one by one.
+//! - `sample`: the image that a sample makes.
 //! - `report`: printing it, to any sink.
 //! - `run`: the whole, whose contract says what each answer means.
 //!
@@ -19,9 +21,11 @@ ghost use Rattle.multiverse_cli.specs.Wordless.{wordless_code as wordless_code_o
 
 mod carry;
 mod failure;
+mod listing;
 mod refusal;
 mod report;
 mod run;
+mod sample;
 #[cfg(test)]
 mod tests;
 mod texts;

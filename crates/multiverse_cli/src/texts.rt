@@ -1,7 +1,7 @@
 //! The texts that the program prints. They are this project's own; each line ends with a line feed.
 
 ghost use Rattle.std.specs.Prelude.{◌≡◌, ◌++◌, IfOk, OnOk, codes, decimal};
-ghost use Rattle.multiverse_cli.specs.Texts.{added_line, count_line, defect_message, fault_name as fault_name_of, fault_place, image_message, line, memory_message, message_of, rewritten_text as rewritten_text_of};
+ghost use Rattle.multiverse_cli.specs.Texts.{added_line, count_line, defect_message, fault_name as fault_name_of, fault_place, image_message, line, memory_message, message_of, rewritten_text as rewritten_text_of, sample_text as sample_text_of};
 
 use crate::refusal::{Defect, Refusal};
 use elf32_read::ImageFault;
@@ -24,19 +24,35 @@ pub fn rewritten_text(alloc: Global, rewritten: &Rewritten) -> Result<Vec<u8>, N
         rewritten.now.added.len rewritten.now.counters) }
 {
     let mut text = Vec::new(alloc);
-    put_count("sites", rewritten.sites, &mut text)?;
+    put_count("sites", u64::from(rewritten.sites), &mut text)?;
     put_added(rewritten.added.lo(), rewritten.added.len(), &mut text)?;
-    put_count("counters", rewritten.counters, &mut text)?;
+    put_count("counters", u64::from(rewritten.counters), &mut text)?;
+    Ok(text)
+}
+
+/// What a sample prints when it is done: how many sites the image has, and how many bytes it and its output have.
+pub fn sample_text(
+    alloc: Global,
+    sites: u32,
+    input: usize,
+    output: usize,
+) -> Result<Vec<u8>, NoMemory>
+    ensures { IfOk result (λ text. text.items ≡ sample_text_of sites input output) }
+{
+    let mut text = Vec::new(alloc);
+    put_count("sites", u64::from(sites), &mut text)?;
+    put_count("input", input as u64, &mut text)?;
+    put_count("output", output as u64, &mut text)?;
     Ok(text)
 }
 
 /// Appends the line of a number with a word before it.
-fn put_count(word: &str, n: u32, to: &mut Vec<u8>) -> Result<(), NoMemory>
+fn put_count(word: &str, n: u64, to: &mut Vec<u8>) -> Result<(), NoMemory>
     ensures { OnOk result (to.new.items ≡ to.old.items ++ count_line word.now n) }
 {
     to.extend_from_slice(word.as_bytes())?;
     to.push(b' ')?;
-    put_decimal(u64::from(n), to)?;
+    put_decimal(n, to)?;
     to.push(b'\n')?;
     Ok(())
 }

@@ -3,17 +3,20 @@
 
 ghost use Rattle.std.specs.Prelude.{◌≡◌, ◌≤◌, length};
 ghost use Rattle.multiverse_cli.specs.Answers.{Fits};
-ghost use Rattle.multiverse_cli.specs.Commands.{IsNotRewritten, IsNotTraced, IsRewriting, IsTracing};
+ghost use Rattle.multiverse_cli.specs.Commands.{IsListing, IsNotListed, IsNotRewritten, IsNotTraced, IsRewriting, IsSampling, IsTracing};
 ghost use Rattle.multiverse_cli.specs.Verdicts.{AllFit, IsVerdict, IsVerdictOf};
-ghost use Rattle.multiverse_cli.specs.Words.{ToRewrite, ToTrace, input_count, work_of};
+ghost use Rattle.multiverse_cli.specs.Words.{HasSize, ToList, ToRewrite, ToSample, ToTrace, input_count, work_of};
 
 use crate::failure::Objection;
-use crate::texts::rewritten_text;
+use crate::listing::{Listing, Printout};
+use crate::sample::{LARGEST, sample};
+use crate::texts::{rewritten_text, sample_text};
 use crate::words::Task;
-use elf32_read::read_image;
+use elf32_read::{admit, read_image, runs};
 use mv_base::Bytes;
 use mv_rewrite::rewrite;
 use std::alloc::Global;
+use superset::sites;
 use syscall_log::read_log;
 use trace_run::{report_text, trace};
 
@@ -27,7 +30,7 @@ pub struct NewFile<'a> {
 /// What a command delivers: a text that is printed, and the file that it writes, if any.
 #[derive(Drop)]
 pub struct Delivery<'a> {
-    pub text: Vec<u8>,
+    pub text: Printout,
     pub file: Option<NewFile<'a>>,
 }
 
@@ -39,6 +42,7 @@ pub fn verdict<'a>(
 ) -> Result<Delivery<'a>, Objection>
     requires count { length files.now ≡ input_count (work_of task.now) }
     requires fit { AllFit files.now }
+    requires sized { HasSize (work_of task.now) }
     ensures { IsVerdict (work_of task.now) files.now result }
 {
     match (*task, files) {
@@ -46,6 +50,15 @@ pub fn verdict<'a>(
         (Task::Trace { steps }, [image, log]) => {
             traced(alloc, image.as_slice(), log.as_slice(), steps)
         }
+        (Task::Listing, [image]) => listed(alloc, image.as_slice()),
+        (
+            Task::Sample {
+                number,
+                size,
+                output,
+            },
+            [],
+        ) => sampled(alloc, number, size, output),
         _ => unreachable!(),
     }
 }
@@ -58,7 +71,7 @@ fn rewritten<'a>(alloc: Global, output: &'a str, image: &[u8]) -> Result<Deliver
     let rewritten = rewrite(alloc, image)?;
     let text = rewritten_text(alloc, &rewritten)?;
     Ok(Delivery {
-        text,
+        text: Printout::Text(text),
         file: Some(NewFile {
             name: output,
             bytes: rewritten.bytes,
@@ -81,5 +94,46 @@ fn traced<'a>(
     let report = trace(alloc, image, &header, &log, steps)?;
     let mut text = Vec::new(alloc);
     report_text(&report, &mut text)?;
-    Ok(Delivery { text, file: None })
+    Ok(Delivery {
+        text: Printout::Text(text),
+        file: None,
+    })
+}
+
+/// The lines of an image's sites.
+fn listed<'a>(alloc: Global, image: &[u8]) -> Result<Delivery<'a>, Objection>
+    ensures { IsVerdictOf (IsNotListed image.now) (IsListing image.now) result }
+{
+    let loaded = read_image(alloc, image)?;
+    admit(&loaded)?;
+    let runs = runs(alloc, &loaded, image)?;
+    let sites = sites(alloc, runs.as_slice())?;
+    Ok(Delivery {
+        text: Printout::Lines(Listing { runs, sites }),
+        file: None,
+    })
+}
+
+/// The rewritten sample of a number, which is written to `output`, and its numbers. A sample has no fault, and always
+/// finds room.
+fn sampled<'a>(
+    alloc: Global,
+    number: u32,
+    size: u32,
+    output: &'a str,
+) -> Result<Delivery<'a>, Objection>
+    requires some { 1 ≤ size }
+    requires most { size ≤ LARGEST }
+    ensures { IsVerdictOf (λ _. ⊥) (IsSampling number size output.now) result }
+{
+    let image = sample(alloc, number, size)?;
+    let rewritten = rewrite(alloc, image.as_slice())?;
+    let text = sample_text(alloc, rewritten.sites, image.len(), rewritten.bytes.len())?;
+    Ok(Delivery {
+        text: Printout::Text(text),
+        file: Some(NewFile {
+            name: output,
+            bytes: rewritten.bytes,
+        }),
+    })
 }

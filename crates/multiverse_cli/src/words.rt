@@ -1,18 +1,31 @@
 //! The words with which the program is called.
 
-ghost use Rattle.std.specs.Prelude.{◌≡◌, IfSome, length};
+ghost use Rattle.std.specs.Prelude.{◌≡◌, ◌≤◌, IfSome, length};
 ghost use Rattle.std.specs.Option.{option_map};
-ghost use Rattle.multiverse_cli.specs.Words.{asked, asked_of, input_count, is_name as is_name_of, number_of, rewrite_words, texts, trace_words, work_of};
+ghost use Rattle.multiverse_cli.specs.Words.{asked, asked_of, input_count, is_name as is_name_of, HasSize, list_words, number_of, number_within as number_within_of, rewrite_words, sample_words, texts, trace_words, work_of};
 
+use crate::sample::LARGEST;
 use itoa::Buffer;
 
 /// What is done with the files that a command reads.
 #[derive(Clone, Copy)]
 pub enum Task<'a> {
     /// Write to `output` the rewritten image, which the one file holds.
-    Rewrite { output: &'a str },
+    Rewrite {
+        output: &'a str,
+    },
     /// Run the image, which the first file holds, on the log in the second, for at most `steps` steps.
-    Trace { steps: u64 },
+    Trace {
+        steps: u64,
+    },
+    /// List the sites of the image, which the one file holds.
+    Listing,
+    /// Write to `output` the rewritten sample of `number` with `size` bytes of code, from 1 to 1 MiB.
+    Sample {
+        number: u32,
+        size: u32,
+        output: &'a str,
+    },
 }
 
 /// A command: the names of the store's files that it reads, in order, and what it does with them.
@@ -26,14 +39,19 @@ pub struct Command<'a> {
 pub fn read_command(words: &[String]) -> Option<Command<'_>>
     ensures is { option_map asked result ≡ asked_of (texts words.now) }
     ensures inputs { IfSome result (λ c. length c.reads.now ≡ input_count (work_of c.task)) }
+    ensures sized { IfSome result (λ c. HasSize (work_of c.task)) }
 {
-    rewrite_command(words).or_else(|| trace_command(words))
+    rewrite_command(words)
+        .or_else(|| trace_command(words))
+        .or_else(|| list_command(words))
+        .or_else(|| sample_command(words))
 }
 
 /// `rewrite IN OUT`.
 fn rewrite_command(words: &[String]) -> Option<Command<'_>>
     ensures is { option_map asked result ≡ rewrite_words (texts words.now) }
     ensures inputs { IfSome result (λ c. length c.reads.now ≡ input_count (work_of c.task)) }
+    ensures sized { IfSome result (λ c. HasSize (work_of c.task)) }
 {
     match words {
         [command, input, output]
@@ -55,6 +73,7 @@ fn rewrite_command(words: &[String]) -> Option<Command<'_>>
 fn trace_command(words: &[String]) -> Option<Command<'_>>
     ensures is { option_map asked result ≡ trace_words (texts words.now) }
     ensures inputs { IfSome result (λ c. length c.reads.now ≡ input_count (work_of c.task)) }
+    ensures sized { IfSome result (λ c. HasSize (work_of c.task)) }
 {
     match words {
         [command, input, log, steps]
@@ -63,6 +82,47 @@ fn trace_command(words: &[String]) -> Option<Command<'_>>
             Some(Command {
                 reads: &words[1..3],
                 task: Task::Trace { steps },
+            })
+        }
+        _ => None,
+    }
+}
+
+/// `list IN`.
+fn list_command(words: &[String]) -> Option<Command<'_>>
+    ensures is { option_map asked result ≡ list_words (texts words.now) }
+    ensures inputs { IfSome result (λ c. length c.reads.now ≡ input_count (work_of c.task)) }
+    ensures sized { IfSome result (λ c. HasSize (work_of c.task)) }
+{
+    match words {
+        [command, input] if command.as_str() == "list" && is_name(input.as_str()) => {
+            Some(Command {
+                reads: &words[1..2],
+                task: Task::Listing,
+            })
+        }
+        _ => None,
+    }
+}
+
+/// `sample NUMBER SIZE OUT`.
+fn sample_command(words: &[String]) -> Option<Command<'_>>
+    ensures is { option_map asked result ≡ sample_words (texts words.now) }
+    ensures inputs { IfSome result (λ c. length c.reads.now ≡ input_count (work_of c.task)) }
+    ensures sized { IfSome result (λ c. HasSize (work_of c.task)) }
+{
+    match words {
+        [command, number, size, output]
+            if command.as_str() == "sample" && is_name(output.as_str()) => {
+            let number = number_within(0, u32::MAX, number.as_str())?;
+            let size = number_within(1, LARGEST, size.as_str())?;
+            Some(Command {
+                reads: &words[..0],
+                task: Task::Sample {
+                    number,
+                    size,
+                    output: output.as_str(),
+                },
             })
         }
         _ => None,
@@ -83,6 +143,19 @@ fn number(word: &str) -> Option<u64>
     let number = word.parse::<u64>().ok()?;
     let mut buffer = Buffer::new();
     if buffer.format(number) == word {
+        Some(number)
+    } else {
+        None
+    }
+}
+
+/// The number from `low` to `high` of which a word is the decimal; `None` where it is none.
+fn number_within(low: u32, high: u32, word: &str) -> Option<u32>
+    ensures is { result ≡ number_within_of low high word.now }
+    ensures within { IfSome result (λ n. (low ≤ n) × (n ≤ high)) }
+{
+    let number = u32::try_from(number(word)?).ok()?;
+    if low <= number && number <= high {
         Some(number)
     } else {
         None

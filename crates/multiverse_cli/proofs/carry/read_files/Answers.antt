@@ -2,7 +2,7 @@ use Rattle.std.proofs.Common.{◌++◌, ◌∷◌, [], List, ℕ, Option, Ok, re
 use Rattle.multiverse_cli.specs.Outside.{stored}
 use Rattle.multiverse_cli.specs.Steps.{ReadsFile}
 use Rattle.multiverse_cli.specs.Words.{texts}
-use Rattle.multiverse_cli.proofs.Files.{one-more, among, IsLaterRead, read-also, large-also, so-far-same, unread, passes-read, first-large}
+use Rattle.multiverse_cli.proofs.Files.{one-more, next-name, so-far-held, IsLaterRead, read-also, large-also, so-far-same, unread, passes-read, first-large}
 use Rattle.multiverse_cli.proofs.carry.read_files.Goals.{in-Some+in_ok-push-in-Some, in-None}
 use Rattle.multiverse_cli.proofs.carry.read_files.Goals as goal
 
@@ -15,9 +15,12 @@ returns-in_err-bytes-clause-reads g c =
       before = c.loop-name.invariant.holds;
       reads_before = c.loop-name.invariant.reads;
     } in
+    let start = stored g.S.Store c.args.store.now c.args.store.now in
+    let whole : IsLaterRead start s = record { tells = refl; before = refl; reads_before = omega arith } in
+    let held = so-far-held c.loop-name.oversized start s _ c.loop-name.files.items whole c.loop-name.invariant.so_far in
     passes-read _ c.in_err-bytes.field-0.0 _ s c.from_residual.ensures.1
     (unread c.in_err-bytes.field-0.0 w s _ c.as_str.result.now later refl refl
-    (among c.args.names.now c.loop-name.name-index c.name-item.result c.as_str.result.now c.loop-name-test.true c.name-item.is c.as_str.ensures.value)
+    (next-name c.args.names.now c.loop-name.name-index c.name-item.result c.as_str.result.now c.loop-name-test.true c.name-item.is c.as_str.ensures.value s held)
     c.in_err-bytes.ensures.reads)
 
 pub loop-name-preserved : goal.loop-name-preserved
