@@ -1,6 +1,6 @@
 //! Counters: which sites are counted, and the code that counts an execution.
 //!
-//! `rules` names sites by what their instructions do or by their addresses. `hooks` keeps a caller's question 'count
+//! `rules` names sites by what their instructions do or by their addresses, and `rule_text` reads a rule's text. `hooks` keeps a caller's question 'count
 //! here?' beside the fact that it answers by a rule, so that it may be asked as often as one likes. `code` has the bytes
 //! of a counter, and `laws` says what a run of them does, over all states.
 #![tactic(auto)]
@@ -8,10 +8,12 @@
 pub mod code;
 pub mod hooks;
 pub mod laws;
+pub mod rule_text;
 pub mod rules;
 
 pub use code::{counter_len, counter_piece};
 pub use hooks::{Hooks, Question};
+pub use rule_text::{is_rule, read_rule};
 pub use rules::{Rule, picked};
 
 #[cfg(test)]

@@ -1,10 +1,12 @@
-//! Which sites a rule picks, a question that is stored, and the bytes of a counter as they are worked out by hand.
+//! Which sites a rule picks, the texts of rules, a question that is stored, and the bytes of a counter as they are worked
+//! out by hand.
 
 ghost use Rattle.std.specs.Prelude.{◌≡◌, IfOk};
 ghost use Rattle.counter_hooks.specs.Rules.{IsAscending, Tells, picked as is_picked};
 
 use crate::code::{counter_len, counter_piece};
 use crate::hooks::{Hooks, Question};
+use crate::rule_text::{is_rule, read_rule};
 use crate::rules::{Rule, picked};
 use mv_base::{Addrs, NoMemory};
 use std::alloc::Global;
@@ -91,4 +93,33 @@ fn a_counter_is_as_worked_out(rt: HostRuntime) {
                 0x00, 0x50, 0x10, 0x00,
             ][..]
     );
+}
+
+#[test]
+fn a_text_is_a_rule_or_none(rt: HostRuntime) {
+    for text in ["none", "branches", "at:08048054", "at:0000000a,ffffffff"] {
+        assert!(rt; is_rule(text));
+    }
+    for text in [
+        "",
+        "All",
+        "at:",
+        "at:0804805",
+        "at:0804805A",
+        "at:08048054,",
+    ] {
+        assert!(rt; !is_rule(text));
+    }
+    for list in ["at:08048054,08048054", "at:08048055,08048054"] {
+        assert!(rt; !is_rule(list));
+    }
+}
+
+#[test]
+fn a_text_is_read(rt: HostRuntime) -> Result<(), Fail> {
+    let rule = read_rule(rt.alloc(), "at:0000000a,ffffffff")?;
+    assert!(rt; matches!(&rule, Some(Rule::At(list)) if list.as_slice() == &[10, u32::MAX][..]));
+    assert!(rt; matches!(read_rule(rt.alloc(), "calls")?, Some(Rule::Calls)));
+    assert!(rt; read_rule(rt.alloc(), "at:0000000a,")?.is_none());
+    Ok(())
 }
