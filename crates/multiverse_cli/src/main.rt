@@ -22,6 +22,8 @@ ghost use Rattle.multiverse_cli.specs.Wordless.{wordless_code as wordless_code_o
 mod carry;
 mod failure;
 mod listing;
+#[cfg(test)]
+mod listings;
 mod refusal;
 mod report;
 mod run;

@@ -9,7 +9,7 @@ use std::test::Fail;
 
 /// An ELF file with one program header, which maps the 12 bytes of code behind it at 0x08048054: `mov eax,1`,
 /// `mov ebx,7` and `int 0x80`.
-const IMAGE: [u8; 96] = [
+pub(crate) const IMAGE: [u8; 96] = [
     0x7f, 0x45, 0x4c, 0x46, 1, 1, 1, 0, 0, 0, 0, 0, 0, 0, 0, 0, 2, 0, 3, 0, 1, 0, 0, 0, 0x54, 0x80,
     4, 8, 52, 0, 0, 0, 0, 0, 0, 0, 0, 0, 0, 0, 52, 0, 32, 0, 1, 0, 0, 0, 0, 0, 0, 0, 1, 0, 0, 0,
     84, 0, 0, 0, 0x54, 0x80, 4, 8, 0x54, 0x80, 4, 8, 12, 0, 0, 0, 12, 0, 0, 0, 5, 0, 0, 0, 0, 0x10,
@@ -65,7 +65,12 @@ pub(crate) fn strings(alloc: Global, words: &[&str]) -> Result<Vec<String>, Fail
 }
 
 /// A store that holds `a` and `b`, whose call of `get` and of `put` with these numbers fail; 0 is no call.
-fn store_of(alloc: Global, a: &[u8], fail_get: u64, fail_put: u64) -> Result<MemStore, Fail> {
+pub(crate) fn store_of(
+    alloc: Global,
+    a: &[u8],
+    fail_get: u64,
+    fail_put: u64,
+) -> Result<MemStore, Fail> {
     let mut store = MemStore::new(alloc, vec![in alloc; fail_get]?, vec![in alloc; fail_put]?)?;
     store.add("a", a)?;
     store.add("b", b"old")?;
@@ -166,6 +171,15 @@ fn refusals_say_why_and_change_nothing(rt: HostRuntime) -> Result<(), Fail> {
         usage(&["trace", "a", "b", "1", "1"]),
         usage(&["trace", "a", "b", "18446744073709551616"]),
         usage(&["trace", "a", "--b", "1"]),
+        usage(&["list"]),
+        usage(&["list", "a", "b"]),
+        usage(&["list", "--a"]),
+        usage(&["sample", "0", "0", "b"]),
+        usage(&["sample", "0", "1048577", "b"]),
+        usage(&["sample", "4294967296", "1", "b"]),
+        usage(&["sample", "0", "01", "b"]),
+        usage(&["sample", "0", "1", "--b"]),
+        usage(&["sample", "0", "1"]),
         Case {
             fail_print: 1,
             printed: "",
@@ -250,224 +264,221 @@ fn output_that_fails_is_old_or_whole(rt: HostRuntime) -> Result<(), Fail> {
     Ok(())
 }
 
-/// A program header, whose two addresses are one.
-#[derive(Clone, Copy)]
-pub(crate) struct Header {
-    pub(crate) kind: u32,
-    pub(crate) offset: u32,
-    pub(crate) vaddr: u32,
-    pub(crate) filesz: u32,
-    pub(crate) memsz: u32,
-    pub(crate) flags: u32,
+/// `mov eax,1`, `mov ebx,7` and `int 0x80`.
+pub(crate) const EXIT: &[u8] = b"\xb8\x01\0\0\0\xbb\x07\0\0\0\xcd\x80";
+
+/// Says that a header follows.
+pub(crate) const NO_HEADER: [u8; 52] = [
+    0x7f, 0x45, 0x4c, 0x46, 1, 1, 1, 0, 0, 0, 0, 0, 0, 0, 0, 0, 2, 0, 3, 0, 1, 0, 0, 0, 0x54, 0x80,
+    4, 8, 0x34, 0, 0, 0, 0, 0, 0, 0, 0, 0, 0, 0, 0x34, 0, 0x20, 0, 1, 0, 0, 0, 0, 0, 0, 0,
+];
+
+/// Says that 65 headers follow.
+pub(crate) const MANY_HEADERS: [u8; 52] = [
+    0x7f, 0x45, 0x4c, 0x46, 1, 1, 1, 0, 0, 0, 0, 0, 0, 0, 0, 0, 2, 0, 3, 0, 1, 0, 0, 0, 0x54, 0x80,
+    4, 8, 0x34, 0, 0, 0, 0, 0, 0, 0, 0, 0, 0, 0, 0x34, 0, 0x20, 0, 0x41, 0, 0, 0, 0, 0, 0, 0,
+];
+
+/// Maps 12 bytes, but doesn't let them run.
+pub(crate) const DATA: [u8; 84] = [
+    0x7f, 0x45, 0x4c, 0x46, 1, 1, 1, 0, 0, 0, 0, 0, 0, 0, 0, 0, 2, 0, 3, 0, 1, 0, 0, 0, 0x54, 0x80,
+    4, 8, 0x34, 0, 0, 0, 0, 0, 0, 0, 0, 0, 0, 0, 0x34, 0, 0x20, 0, 1, 0, 0, 0, 0, 0, 0, 0, 1, 0, 0,
+    0, 0x54, 0, 0, 0, 0x54, 0x80, 4, 8, 0x54, 0x80, 4, 8, 0x0c, 0, 0, 0, 0x0c, 0, 0, 0, 4, 0, 0, 0,
+    0, 0x10, 0, 0,
+];
+
+/// Says that 62 headers follow, of which the first maps a byte of code behind them.
+const OF_62_HEADERS: [u8; 84] = [
+    0x7f, 0x45, 0x4c, 0x46, 1, 1, 1, 0, 0, 0, 0, 0, 0, 0, 0, 0, 2, 0, 3, 0, 1, 0, 0, 0, 0xf4, 0x87,
+    4, 8, 0x34, 0, 0, 0, 0, 0, 0, 0, 0, 0, 0, 0, 0x34, 0, 0x20, 0, 0x3e, 0, 0, 0, 0, 0, 0, 0, 1, 0,
+    0, 0, 0xf4, 7, 0, 0, 0xf4, 0x87, 4, 8, 0xf4, 0x87, 4, 8, 1, 0, 0, 0, 1, 0, 0, 0, 5, 0, 0, 0, 0,
+    0x10, 0, 0,
+];
+
+/// Writable code, and an interpreter.
+const WRITABLE_FIRST: [u8; 116] = [
+    0x7f, 0x45, 0x4c, 0x46, 1, 1, 1, 0, 0, 0, 0, 0, 0, 0, 0, 0, 2, 0, 3, 0, 1, 0, 0, 0, 0x54, 0x80,
+    4, 8, 0x34, 0, 0, 0, 0, 0, 0, 0, 0, 0, 0, 0, 0x34, 0, 0x20, 0, 2, 0, 0, 0, 0, 0, 0, 0, 1, 0, 0,
+    0, 0x74, 0, 0, 0, 0x74, 0x80, 4, 8, 0x74, 0x80, 4, 8, 0x0c, 0, 0, 0, 0x0c, 0, 0, 0, 7, 0, 0, 0,
+    0, 0x10, 0, 0, 3, 0, 0, 0, 0x74, 0, 0, 0, 0x74, 0x80, 4, 8, 0x74, 0x80, 4, 8, 0x0c, 0, 0, 0,
+    0x0c, 0, 0, 0, 5, 0, 0, 0, 0, 0x10, 0, 0,
+];
+
+/// An interpreter, and writable code.
+const INTERPRETER_FIRST: [u8; 116] = [
+    0x7f, 0x45, 0x4c, 0x46, 1, 1, 1, 0, 0, 0, 0, 0, 0, 0, 0, 0, 2, 0, 3, 0, 1, 0, 0, 0, 0x54, 0x80,
+    4, 8, 0x34, 0, 0, 0, 0, 0, 0, 0, 0, 0, 0, 0, 0x34, 0, 0x20, 0, 2, 0, 0, 0, 0, 0, 0, 0, 3, 0, 0,
+    0, 0x74, 0, 0, 0, 0x74, 0x80, 4, 8, 0x74, 0x80, 4, 8, 0x0c, 0, 0, 0, 0x0c, 0, 0, 0, 5, 0, 0, 0,
+    0, 0x10, 0, 0, 1, 0, 0, 0, 0x74, 0, 0, 0, 0x74, 0x80, 4, 8, 0x74, 0x80, 4, 8, 0x0c, 0, 0, 0,
+    0x0c, 0, 0, 0, 7, 0, 0, 0, 0, 0x10, 0, 0,
+];
+
+/// One byte of code more than is rewritten, at 0x08048074, which is the entry, behind two headers of which one is empty.
+pub(crate) const LARGE_CODE: [u8; 116] = [
+    0x7f, 0x45, 0x4c, 0x46, 1, 1, 1, 0, 0, 0, 0, 0, 0, 0, 0, 0, 2, 0, 3, 0, 1, 0, 0, 0, 0x74, 0x80,
+    4, 8, 0x34, 0, 0, 0, 0, 0, 0, 0, 0, 0, 0, 0, 0x34, 0, 0x20, 0, 2, 0, 0, 0, 0, 0, 0, 0, 1, 0, 0,
+    0, 0x74, 0, 0, 0, 0x74, 0x80, 4, 8, 0x74, 0x80, 4, 8, 0x0c, 0, 0, 0, 1, 0, 0x40, 0, 5, 0, 0, 0,
+    0, 0x10, 0, 0, 0, 0, 0, 0, 0, 0, 0, 0, 0, 0, 0, 0, 0, 0, 0, 0, 0, 0, 0, 0, 0, 0, 0, 0, 0, 0, 0,
+    0, 0, 0, 0, 0,
+];
+
+/// Zeros at each address that an added block may have, and code above them.
+const NO_ROOM: [u8; 116] = [
+    0x7f, 0x45, 0x4c, 0x46, 1, 1, 1, 0, 0, 0, 0, 0, 0, 0, 0, 0, 2, 0, 3, 0, 1, 0, 0, 0, 0x54, 0x80,
+    4, 8, 0x34, 0, 0, 0, 0, 0, 0, 0, 0, 0, 0, 0, 0x34, 0, 0x20, 0, 2, 0, 0, 0, 0, 0, 0, 0, 1, 0, 0,
+    0, 0, 0, 0, 0, 0, 0, 0x10, 0, 0, 0, 0x10, 0, 0, 0, 0, 0, 0, 0, 0xf0, 0xaf, 6, 0, 0, 0, 0, 0x10,
+    0, 0, 1, 0, 0, 0, 0x74, 0, 0, 0, 0x74, 0, 0, 0xb0, 0x74, 0, 0, 0xb0, 0x0c, 0, 0, 0, 0x0c, 0, 0,
+    0, 5, 0, 0, 0, 0, 0x10, 0, 0,
+];
+
+/// A page of zeros four pages above the lowest address of an added block, and code.
+const ZEROS: [u8; 116] = [
+    0x7f, 0x45, 0x4c, 0x46, 1, 1, 1, 0, 0, 0, 0, 0, 0, 0, 0, 0, 2, 0, 3, 0, 1, 0, 0, 0, 0x54, 0x80,
+    4, 8, 0x34, 0, 0, 0, 0, 0, 0, 0, 0, 0, 0, 0, 0x34, 0, 0x20, 0, 2, 0, 0, 0, 0, 0, 0, 0, 1, 0, 0,
+    0, 0, 0, 0, 0, 0, 0x40, 0x10, 0, 0, 0x40, 0x10, 0, 0, 0, 0, 0, 0, 0x10, 0, 0, 6, 0, 0, 0, 0,
+    0x10, 0, 0, 1, 0, 0, 0, 0x74, 0, 0, 0, 0x74, 0x80, 4, 8, 0x74, 0x80, 4, 8, 0x0c, 0, 0, 0, 0x0c,
+    0, 0, 0, 5, 0, 0, 0, 0, 0x10, 0, 0,
+];
+
+/// The code twice, the second time two pages above.
+const TWICE: [u8; 116] = [
+    0x7f, 0x45, 0x4c, 0x46, 1, 1, 1, 0, 0, 0, 0, 0, 0, 0, 0, 0, 2, 0, 3, 0, 1, 0, 0, 0, 0x54, 0x80,
+    4, 8, 0x34, 0, 0, 0, 0, 0, 0, 0, 0, 0, 0, 0, 0x34, 0, 0x20, 0, 2, 0, 0, 0, 0, 0, 0, 0, 1, 0, 0,
+    0, 0x74, 0, 0, 0, 0x74, 0x80, 4, 8, 0x74, 0x80, 4, 8, 0x0c, 0, 0, 0, 0x0c, 0, 0, 0, 5, 0, 0, 0,
+    0, 0x10, 0, 0, 1, 0, 0, 0, 0x74, 0, 0, 0, 0x74, 0xa0, 4, 8, 0x74, 0xa0, 4, 8, 0x0c, 0, 0, 0,
+    0x0c, 0, 0, 0, 5, 0, 0, 0, 0, 0x10, 0, 0,
+];
+
+/// The head of a file with so many bytes of code, which is mapped alone, at 0x08048054.
+pub(crate) const fn head_of(len: u16) -> [u8; 84] {
+    let [low, high] = len.to_le_bytes();
+    [
+        0x7f, 0x45, 0x4c, 0x46, 1, 1, 1, 0, 0, 0, 0, 0, 0, 0, 0, 0, 2, 0, 3, 0, 1, 0, 0, 0, 0x54,
+        0x80, 4, 8, 52, 0, 0, 0, 0, 0, 0, 0, 0, 0, 0, 0, 52, 0, 32, 0, 1, 0, 0, 0, 0, 0, 0, 0, 1,
+        0, 0, 0, 84, 0, 0, 0, 0x54, 0x80, 4, 8, 0x54, 0x80, 4, 8, low, high, 0, 0, low, high, 0, 0,
+        5, 0, 0, 0, 0, 0x10, 0, 0,
+    ]
 }
 
-/// Maps the code behind two headers.
-pub(crate) const CODE_AT_TWO: Header = Header {
-    kind: 1,
-    offset: 0x74,
-    vaddr: 0x0804_8074,
-    filesz: 12,
-    memsz: 12,
-    flags: 5,
-};
-
-/// Names an interpreter.
-const INTERPRETER: Header = Header {
-    kind: 3,
-    ..CODE_AT_TWO
-};
-
-/// Maps a page of zeros that may be written, four pages above the lowest address of an added block.
-const ZEROS: Header = Header {
-    kind: 1,
-    offset: 0,
-    vaddr: 0x0010_4000,
-    filesz: 0,
-    memsz: 0x1000,
-    flags: 6,
-};
-
-/// Maps zeros at each address that an added block may have.
-const ZEROS_EVERYWHERE: Header = Header {
-    vaddr: 0x0010_0000,
-    memsz: 0xaff0_0000,
-    ..ZEROS
-};
-
-/// An image with this entry and so many headers, these first and then empty ones, with the code behind them.
-pub(crate) fn image_of(
-    alloc: Global,
-    entry: u32,
-    headers: &[Header],
-    count: u16,
-    code: &[u8],
-) -> Result<Vec<u8>, Fail> {
-    let mut bytes = IMAGE[..24].to_vec(alloc)?;
-    bytes.extend_from_slice(&entry.to_le_bytes())?;
-    bytes.extend_from_slice(&IMAGE[28..44])?;
-    bytes.extend_from_slice(&count.to_le_bytes())?;
-    bytes.extend_from_slice(&IMAGE[46..52])?;
-    for header in headers {
-        let Header {
-            kind,
-            offset,
-            vaddr,
-            filesz,
-            memsz,
-            flags,
-        } = *header;
-        for field in [kind, offset, vaddr, vaddr, filesz, memsz, flags, 0x1000] {
-            bytes.extend_from_slice(&field.to_le_bytes())?;
-        }
+/// A file: the code behind a head, or behind that of code alone where the head is empty.
+pub(crate) fn file_of(alloc: Global, head: &[u8], code: &[u8]) -> Result<Vec<u8>, Fail> {
+    let len = u16::try_from(code.len()).ok().ok_or("a length")?;
+    let mut file = head.to_vec(alloc)?;
+    if head.is_empty() {
+        file.extend_from_slice(&head_of(len))?;
     }
-    bytes.resize(52 + 32 * usize::from(count), 0)?;
-    bytes.extend_from_slice(code)?;
-    Ok(bytes)
+    file.extend_from_slice(code)?;
+    Ok(file)
 }
 
-/// An image with so many headers, these first, of which so many bytes are kept, and what a rewrite of it gives: the
-/// answer, the text, and how many bytes OUT, which held 3, has then.
+/// A file with 62 headers, of which the first maps a `hlt` behind them.
+pub(crate) fn full_of_headers(alloc: Global) -> Result<Vec<u8>, Fail> {
+    let mut file = OF_62_HEADERS.to_vec(alloc)?;
+    file.resize(52 + 32 * 62, 0)?;
+    file.push(0xf4)?;
+    Ok(file)
+}
+
+/// A head, and what a rewrite of `EXIT` behind it gives: the answer, the text, and how many bytes OUT, which held 3, has
+/// then.
 #[derive(Clone, Copy)]
 struct Row {
-    headers: &'static [Header],
-    count: u16,
-    kept: usize,
+    head: &'static [u8],
     status: Status,
     printed: &'static str,
     output: usize,
 }
 
-/// A row whose image, of these two headers, has the fault.
-const fn bad(headers: &'static [Header], printed: &'static str) -> Row {
+/// What is rewritten or refused.
+const ROWS: [Row; 10] = [
     Row {
-        headers,
-        count: 2,
-        kept: FILE_LIMIT,
+        head: &WRITABLE_FIRST,
         status: Status::BadImage,
-        printed,
+        printed: "multiverse: bad image: WritableCode header 0\n",
         output: 3,
-    }
-}
-
-/// A row whose image, of these two headers, is rewritten.
-const fn done(headers: &'static [Header], printed: &'static str, output: usize) -> Row {
+    },
     Row {
+        head: &INTERPRETER_FIRST,
+        status: Status::BadImage,
+        printed: "multiverse: bad image: Interpreter header 0\n",
+        output: 3,
+    },
+    Row {
+        head: &LARGE_CODE,
+        status: Status::BadImage,
+        printed: "multiverse: bad image: CodeTooLarge\n",
+        output: 3,
+    },
+    Row {
+        head: &MANY_HEADERS,
+        status: Status::BadImage,
+        printed: "multiverse: bad image: HeaderCount\n",
+        output: 3,
+    },
+    Row {
+        head: b"no image",
+        status: Status::BadImage,
+        printed: "multiverse: bad image: ShortHeader\n",
+        output: 3,
+    },
+    Row {
+        head: &NO_HEADER,
+        status: Status::BadImage,
+        printed: "multiverse: bad image: HeadersOutside\n",
+        output: 3,
+    },
+    Row {
+        head: &NO_ROOM,
+        status: Status::NoRoom,
+        printed: "multiverse: no room: 20480\n",
+        output: 3,
+    },
+    Row {
+        head: &ZEROS,
         status: Status::Done,
-        output,
-        ..bad(headers, printed)
-    }
-}
+        printed: "sites 10\nadded 00105000 00005000\ncounters 0\n",
+        output: 24_576,
+    },
+    Row {
+        head: &TWICE,
+        status: Status::Done,
+        printed: "sites 20\nadded 00100000 00006000\ncounters 0\n",
+        output: 28_672,
+    },
+    Row {
+        head: &DATA,
+        status: Status::Done,
+        printed: "sites 0\nadded 00100000 00003000\ncounters 0\n",
+        output: 16_384,
+    },
+];
 
-fn check_row(rt: &(impl AllocGlobal + Abort), words: &[String], row: &Row) -> Result<(), Fail> {
+fn check_row(rt: &(impl AllocGlobal + Abort), image: &[u8], row: &Row) -> Result<(), Fail> {
     let alloc = rt.alloc();
-    let mut image = image_of(alloc, 0x0804_8054, row.headers, row.count, &IMAGE[84..])?;
-    image.truncate(row.kept);
-    let mut store = store_of(alloc, image.as_slice(), 0, 0)?;
+    let words = strings(alloc, &["rewrite", "a", "b"])?;
+    let mut store = store_of(alloc, image, 0, 0)?;
     let mut out = MemSink::new(alloc, Vec::new(alloc))?;
-    let status = run(alloc, words, &mut store, &mut out);
-    assert_eq!(rt; status, row.status, "{}", row.printed);
-    assert_eq!(rt; out.bytes(), row.printed.as_bytes(), "{}", row.printed);
-    assert!(rt; is_held(&store, "a", image.as_slice()));
+    let status = run(alloc, words.as_slice(), &mut store, &mut out);
+    assert_eq!(rt; out.bytes(), row.printed.as_bytes());
+    assert_eq!(rt; status, row.status);
+    assert!(rt; is_held(&store, "a", image));
     assert!(rt; status == Status::Done || is_held(&store, "b", b"old"));
-    assert_eq!(rt;
-        store.file("b").map(|held| held.len()),
-        Some(row.output),
-        "{}",
-        row.printed
-    );
+    assert_eq!(rt; store.file("b").map(|held| held.len()), Some(row.output));
     Ok(())
 }
-
-/// Maps the code behind one header, at the address that `IMAGE` has, but doesn't let it run.
-pub(crate) const DATA_AT_ONE: Header = Header {
-    offset: 0x54,
-    vaddr: 0x0804_8054,
-    flags: 4,
-    ..CODE_AT_TWO
-};
-
-/// Maps the code writable and executable.
-const WRITABLE_CODE: Header = Header {
-    flags: 7,
-    ..CODE_AT_TWO
-};
-
-/// Maps one byte of code more than is rewritten.
-pub(crate) const LARGE_CODE: Header = Header {
-    memsz: 0x0040_0001,
-    ..CODE_AT_TWO
-};
-
-/// Maps the code a second time, two pages above.
-const CODE_AGAIN: Header = Header {
-    vaddr: 0x0804_a074,
-    ..CODE_AT_TWO
-};
-
-/// Maps the code at the first address above those of an added block.
-const CODE_ABOVE: Header = Header {
-    vaddr: 0xb000_0074,
-    ..CODE_AT_TWO
-};
 
 #[test]
 fn images_are_rewritten_or_refused(rt: HostRuntime) -> Result<(), Fail> {
-    let rows = [
-        bad(
-            &[WRITABLE_CODE, INTERPRETER],
-            "multiverse: bad image: WritableCode header 0\n",
-        ),
-        bad(
-            &[INTERPRETER, WRITABLE_CODE],
-            "multiverse: bad image: Interpreter header 0\n",
-        ),
-        bad(&[LARGE_CODE], "multiverse: bad image: CodeTooLarge\n"),
-        Row {
-            count: 62,
-            ..bad(&[CODE_AT_TWO], "multiverse: bad image: HeadersFull\n")
-        },
-        Row {
-            count: 65,
-            ..bad(&[CODE_AT_TWO], "multiverse: bad image: HeaderCount\n")
-        },
-        Row {
-            kept: 0,
-            ..bad(&[CODE_AT_TWO], "multiverse: bad image: ShortHeader\n")
-        },
-        Row {
-            count: 1,
-            kept: 60,
-            ..bad(&[CODE_AT_TWO], "multiverse: bad image: HeadersOutside\n")
-        },
-        Row {
-            status: Status::NoRoom,
-            ..bad(
-                &[ZEROS_EVERYWHERE, CODE_ABOVE],
-                "multiverse: no room: 20480\n",
-            )
-        },
-        done(
-            &[ZEROS, CODE_AT_TWO],
-            "sites 10\nadded 00105000 00005000\ncounters 0\n",
-            24_576,
-        ),
-        done(
-            &[CODE_AT_TWO, CODE_AGAIN],
-            "sites 20\nadded 00100000 00006000\ncounters 0\n",
-            28_672,
-        ),
-        Row {
-            count: 1,
-            ..done(
-                &[DATA_AT_ONE],
-                "sites 0\nadded 00100000 00003000\ncounters 0\n",
-                16_384,
-            )
-        },
-    ];
-    let words = strings(rt.alloc(), &["rewrite", "a", "b"])?;
-    for row in &rows {
-        check_row(&rt, words.as_slice(), row)?;
+    for row in &ROWS {
+        let image = file_of(rt.alloc(), row.head, EXIT)?;
+        check_row(&rt, image.as_slice(), row)?;
     }
-    Ok(())
+    let row = Row {
+        head: &OF_62_HEADERS,
+        status: Status::BadImage,
+        printed: "multiverse: bad image: HeadersFull\n",
+        output: 3,
+    };
+    let image = full_of_headers(rt.alloc())?;
+    check_row(&rt, image.as_slice(), &row)
 }
