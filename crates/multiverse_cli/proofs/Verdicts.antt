@@ -3,6 +3,7 @@ use Rattle.std.proofs.Common.{◌≡◌, ℕ, List, [], ◌∷◌, Option, Some,
 use Rattle.std.specs.Option.{option_map}
 use Rattle.elf32_read.specs.declared.fault.ImageFault.{ImageFault}
 use Rattle.elf32_read.specs.Faults.{refusal}
+use Rattle.counter_hooks.specs.declared.rules.Rule.{Rule}
 use Rattle.mv_rewrite.specs.Layout.{base_of}
 use Rattle.syscall_log.specs.declared.answer.Answer.{Answer}
 use Rattle.syscall_log.specs.declared.log.Log.{Log}
@@ -28,23 +29,23 @@ fault-none o fault none some = let e : None ≡ Some fault = sym none ∙ some i
 
 -- ---- rewrite
 
-rewrite-one : (b : List ℕ) (why other : Defect) → IsNotRewritten b why → IsNotRewritten b other → defect_status why ≡ defect_status other
-rewrite-one b (BadImage f) (BadImage g) h k = refl
-rewrite-one b (BadImage f) (BadLog n) h k = absurd k
-rewrite-one b (BadImage f) (TooLarge n) h k = absurd k
-rewrite-one b (BadImage f) (NoRoom n) h k = absurd (fault-none _ f k.whole h)
-rewrite-one b (BadLog n) other h k = absurd h
-rewrite-one b (TooLarge n) other h k = absurd h
-rewrite-one b (NoRoom n) (BadImage f) h k = absurd (fault-none _ f h.whole k)
-rewrite-one b (NoRoom n) (BadLog m) h k = absurd k
-rewrite-one b (NoRoom n) (TooLarge m) h k = absurd k
-rewrite-one b (NoRoom n) (NoRoom m) h k = refl
+rewrite-one : (b : List ℕ) (which : Rule) (why other : Defect) → IsNotRewritten b which why → IsNotRewritten b which other → defect_status why ≡ defect_status other
+rewrite-one b which (BadImage f) (BadImage g) h k = refl
+rewrite-one b which (BadImage f) (BadLog n) h k = absurd k
+rewrite-one b which (BadImage f) (TooLarge n) h k = absurd k
+rewrite-one b which (BadImage f) (NoRoom n) h k = absurd (fault-none _ f k.whole h)
+rewrite-one b which (BadLog n) other h k = absurd h
+rewrite-one b which (TooLarge n) other h k = absurd h
+rewrite-one b which (NoRoom n) (BadImage f) h k = absurd (fault-none _ f h.whole k)
+rewrite-one b which (NoRoom n) (BadLog m) h k = absurd k
+rewrite-one b which (NoRoom n) (TooLarge m) h k = absurd k
+rewrite-one b which (NoRoom n) (NoRoom m) h k = refl
 
-rewrite-clash : (b : List ℕ) (why : Defect) → IsNotRewritten b why → IsRewritable b → ⊥
-rewrite-clash b (BadImage f) h k = fault-none _ f k.sound h
-rewrite-clash b (BadLog n) h k = h
-rewrite-clash b (TooLarge n) h k = h
-rewrite-clash b (NoRoom n) h k = absent (base_of b) h.full k.room
+rewrite-clash : (b : List ℕ) (which : Rule) (why : Defect) → IsNotRewritten b which why → IsRewritable b which → ⊥
+rewrite-clash b which (BadImage f) h k = fault-none _ f k.sound h
+rewrite-clash b which (BadLog n) h k = h
+rewrite-clash b which (TooLarge n) h k = h
+rewrite-clash b which (NoRoom n) h k = absent (base_of b which) h.full k.room
 
 -- ---- trace
 
@@ -118,9 +119,9 @@ list-clash b (NoRoom n) h k = h
 pub one-defect :
     (w : Work) (files : List (List ℕ)) (why other : Defect) → Lacks w files why → Lacks w files other
     → defect_status why ≡ defect_status other
-one-defect (ToRewrite output) [] why other h k = absurd h
-one-defect (ToRewrite output) (b ∷ []) why other h k = rewrite-one b why other h k
-one-defect (ToRewrite output) (b ∷ c ∷ files) why other h k = absurd h
+one-defect (ToRewrite which output) [] why other h k = absurd h
+one-defect (ToRewrite which output) (b ∷ []) why other h k = rewrite-one b which why other h k
+one-defect (ToRewrite which output) (b ∷ c ∷ files) why other h k = absurd h
 one-defect (ToTrace steps) [] why other h k = absurd h
 one-defect (ToTrace steps) (b ∷ []) why other h k = absurd h
 one-defect (ToTrace steps) (b ∷ l ∷ []) why other h k = trace-one steps b l why other h k
@@ -133,9 +134,9 @@ one-defect (ToSample number size output) (b ∷ files) why other h k = absurd h
 
 -- files that lack something have nothing that is delivered over them
 pub defect-clash : SpellsOne → (w : Work) (files : List (List ℕ)) (why : Defect) (d : Delivery) → Lacks w files why → Delivers w files d → ⊥
-defect-clash one (ToRewrite output) [] why d h k = h
-defect-clash one (ToRewrite output) (b ∷ []) why d h k = rewrite-clash b why h k.rewrites.rewritable
-defect-clash one (ToRewrite output) (b ∷ c ∷ files) why d h k = h
+defect-clash one (ToRewrite which output) [] why d h k = h
+defect-clash one (ToRewrite which output) (b ∷ []) why d h k = rewrite-clash b which why h k.rewrites.rewritable
+defect-clash one (ToRewrite which output) (b ∷ c ∷ files) why d h k = h
 defect-clash one (ToTrace steps) [] why d h k = h
 defect-clash one (ToTrace steps) (b ∷ []) why d h k = h
 defect-clash one (ToTrace steps) (b ∷ l ∷ []) why d h k = trace-clash one steps b l why d h k
@@ -150,9 +151,9 @@ defect-clash one (ToSample number size output) (b ∷ files) why d h k = h
 pub output-named :
     (w : Work) (files : List (List ℕ)) (d : Delivery) (f : NewFile) → Delivers w files d → d.file ≡ Some f
     → output_of w ≡ Some f.name
-output-named (ToRewrite output) [] d f h e = absurd h
-output-named (ToRewrite output) (b ∷ []) d f h e = ap (option_map (λ g. g.name)) (sym h.file_is ∙ e)
-output-named (ToRewrite output) (b ∷ c ∷ files) d f h e = absurd h
+output-named (ToRewrite which output) [] d f h e = absurd h
+output-named (ToRewrite which output) (b ∷ []) d f h e = ap (option_map (λ g. g.name)) (sym h.file_is ∙ e)
+output-named (ToRewrite which output) (b ∷ c ∷ files) d f h e = absurd h
 output-named (ToTrace steps) [] d f h e = absurd h
 output-named (ToTrace steps) (b ∷ []) d f h e = absurd h
 output-named (ToTrace steps) (b ∷ l ∷ []) d f h e = let clash : None ≡ Some f = sym h.file_is ∙ e in cc

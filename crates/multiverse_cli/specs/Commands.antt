@@ -4,7 +4,9 @@ use Rattle.elf32_read.specs.Faults.{refusal, load_refusal}
 use Rattle.elf32_write.specs.Frame.{Frame}
 use Rattle.simulation_laws.specs.Stopping.{Simulates}
 use Rattle.mv_rewrite.specs.Sites.{sites}
-use Rattle.mv_rewrite.specs.Layout.{base_of, size}
+use Rattle.counter_hooks.specs.declared.rules.Rule.{Rule}
+use Rattle.counter_hooks.specs.declared.rules.Rule.TheVariants as rule
+use Rattle.mv_rewrite.specs.Layout.{base_of, size, counted_at}
 use Rattle.mv_rewrite.specs.Output.{output}
 use Rattle.mv_rewrite.specs.OutputFile.{IsWrittenFor}
 use Rattle.mv_rewrite.specs.Rewriting.{LacksRoom}
@@ -33,38 +35,39 @@ pub record Delivery : Type 0 where
 
 -- ---- rewrite
 
--- a file that is rewritten: it has no fault, and its addresses have room
-pub record IsRewritable (b : List ℕ) : Type 0 where
+-- a file that is rewritten by a rule of which sites are counted: it has no fault, and its addresses have room
+pub record IsRewritable (b : List ℕ) (which : Rule) : Type 0 where
   pub sound : refusal b ≡ None
-  pub room : IsSome (base_of b)
+  pub room : IsSome (base_of b which)
 
 -- a file that is rewritten, and its one output, which simulates it: while the file completes steps that are clear of
 -- the added addresses and of changes to its code, the output passes in order through a state that agrees after each
 -- one, shows nothing in between, and stops where the file stops (by a fetch fault at the same address, where the file
 -- meets bytes that are no instruction); and it is what is written for the file: an image with a frame, in which the
--- file, its code, the table and the private area stand and load so
-pub record Rewrites (b x : List ℕ) : Type 0 where
-  pub rewritable : IsRewritable b
-  pub output_is : output b ≡ Some x
+-- file, its code, the table and the private area stand and load so; each site that the rule picks has a counter, which
+-- holds how often the site was executed
+pub record Rewrites (b : List ℕ) (which : Rule) (x : List ℕ) : Type 0 where
+  pub rewritable : IsRewritable b which
+  pub output_is : output b which ≡ Some x
   pub simulates : Simulates b x
-  pub written : (f : Frame) × IsWrittenFor b x f
+  pub written : (f : Frame) × IsWrittenFor b which x f
 
--- what is printed of a file that is rewritten: the number of its sites, the added addresses, and no counter
-abbrev pub sites_text : List ℕ → List ℕ
-sites_text b = rewritten_text (length (sites b)) (unwrap_or (base_of b) 0) (size b) 0
+-- what is printed of a file that is rewritten: the number of its sites, the added addresses, and the number of counters
+abbrev pub sites_text : List ℕ → Rule → List ℕ
+sites_text b which = rewritten_text (length (sites b)) (unwrap_or (base_of b which) 0) (size b which) (length (counted_at b which))
 
 -- why a file is not rewritten: its first fault, or no room for its block, which has this size
-abbrev pub IsNotRewritten : List ℕ → Defect → Type 0
-IsNotRewritten b (BadImage fault) = refusal b ≡ Some fault
-IsNotRewritten b (BadLog line) = ⊥
-IsNotRewritten b (TooLarge n) = ⊥
-IsNotRewritten b (NoRoom n) = LacksRoom b n
+abbrev pub IsNotRewritten : List ℕ → Rule → Defect → Type 0
+IsNotRewritten b which (BadImage fault) = refusal b ≡ Some fault
+IsNotRewritten b which (BadLog line) = ⊥
+IsNotRewritten b which (TooLarge n) = ⊥
+IsNotRewritten b which (NoRoom n) = LacksRoom b which n
 
 -- the one output of a file is written, and three lines are printed
-pub record IsRewriting (output b : List ℕ) (d : Delivery) : Type 0 where
+pub record IsRewriting (output b : List ℕ) (which : Rule) (d : Delivery) : Type 0 where
   pub bytes : List ℕ
-  pub rewrites : Rewrites b bytes
-  pub text_is : d.text ≡ sites_text b
+  pub rewrites : Rewrites b which bytes
+  pub text_is : d.text ≡ sites_text b which
   pub file_is : d.file ≡ Some (record { name = output; bytes = bytes })
 
 -- ---- trace
@@ -121,7 +124,7 @@ pub record IsListing (b : List ℕ) (d : Delivery) : Type 0 where
 -- the one output of a sample is written, and three lines are printed
 pub record IsSampling (number size : ℕ) (output : List ℕ) (d : Delivery) : Type 0 where
   pub bytes : List ℕ
-  pub rewrites : Rewrites (sample number size) bytes
+  pub rewrites : Rewrites (sample number size) rule.None bytes
   pub text_is : d.text ≡ sample_text (length (sites (sample number size))) (length (sample number size)) (length bytes)
   pub file_is : d.file ≡ Some (record { name = output; bytes = bytes })
 
@@ -129,14 +132,14 @@ pub record IsSampling (number size : ℕ) (output : List ℕ) (d : Delivery) : T
 
 -- why nothing is delivered over the bytes of the files that are read
 abbrev pub Lacks : Work → List (List ℕ) → Defect → Type 0
-Lacks (ToRewrite output) (b ∷ []) why = IsNotRewritten b why
+Lacks (ToRewrite which output) (b ∷ []) why = IsNotRewritten b which why
 Lacks (ToTrace steps) (b ∷ l ∷ []) why = IsNotTraced steps b l why
 Lacks ToList (b ∷ []) why = IsNotListed b why
 Lacks work inputs why = ⊥
 
 -- what is delivered over the bytes of the files that are read
 abbrev pub Delivers : Work → List (List ℕ) → Delivery → Type 0
-Delivers (ToRewrite output) (b ∷ []) d = IsRewriting output b d
+Delivers (ToRewrite which output) (b ∷ []) d = IsRewriting output b which d
 Delivers (ToTrace steps) (b ∷ l ∷ []) d = IsTracing steps b l d
 Delivers ToList (b ∷ []) d = IsListing b d
 Delivers (ToSample number size output) [] d = IsSampling number size output d

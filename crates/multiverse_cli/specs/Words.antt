@@ -1,20 +1,24 @@
 -- The words of a command. This project's own. A word is the list of its bytes.
-use Rattle.std.specs.Prelude.{ℕ, ◌-◌, ◌^◌, ◌≤◌, Bool, not, ◌&&◌, nat_lt, nat_le, List, [], ◌∷◌, map, Option, Some, None, if◌then◌else◌, codes, decimal, String, string_bytes}
+use Rattle.std.specs.Prelude.{ℕ, ◌-◌, ◌^◌, ◌≤◌, Bool, not, ◌&&◌, nat_lt, nat_le, List, [], ◌∷◌, map, take, drop, Option, Some, None, IsSome, unwrap_or, if◌then◌else◌, codes, decimal, String, string_bytes}
 use Rattle.std.specs.Str.{bytes_eq}
 use Rattle.std.specs.Str.Parse.{digits_value}
 use Rattle.std.specs.List.{starts_with}
 use Rattle.std.specs.Option.{option_map, option_and_then}
 use Rattle.std.specs.Prelude.{nat_eq}
+use Rattle.std.specs.Borrow.{Bor}
 use Rattle.std.specs.declared.alloc.Global.{Global}
+use Rattle.counter_hooks.specs.RuleTexts.{rule_of}
+use Rattle.counter_hooks.specs.declared.rules.Rule.{Rule}
+use Rattle.counter_hooks.specs.declared.rules.Rule.TheVariants as rule
 use Rattle.multiverse_cli.specs.declared.words.Command.{Command}
 use Rattle.multiverse_cli.specs.declared.words.Task.{Task}
 use Rattle.multiverse_cli.specs.declared.words.Task.TheVariants.{Rewrite, Trace, Listing, Sample}
 
--- what is done with the files that a command reads: the rewritten image is written to this name; or the image is run on
--- the log for at most so many steps; or its sites are listed; or no file is read, and the rewritten sample of a number,
+-- what is done with the files that a command reads: the rewritten image, with a counter at each site that the rule picks,
+-- is written to this name; or the image is run on the log for at most so many steps; or its sites are listed; or no file is read, and the rewritten sample of a number,
 -- with so many bytes of code, is written to this name
 pub data Work : Type 0 where
-  ToRewrite : (output : List ℕ) → Work
+  ToRewrite : (which : Rule) (output : List ℕ) → Work
   ToTrace : (steps : ℕ) → Work
   ToList : Work
   ToSample : (number size : ℕ) (output : List ℕ) → Work
@@ -26,14 +30,14 @@ pub record Asked : Type 0 where
 
 -- how many files are read
 abbrev pub input_count : Work → ℕ
-input_count (ToRewrite output) = 1
+input_count (ToRewrite which output) = 1
 input_count (ToTrace steps) = 2
 input_count ToList = 1
 input_count (ToSample number size output) = 0
 
 -- the name that is written
 abbrev pub output_of : Work → Option (List ℕ)
-output_of (ToRewrite output) = Some output
+output_of (ToRewrite which output) = Some output
 output_of (ToTrace steps) = None
 output_of ToList = None
 output_of (ToSample number size output) = Some output
@@ -44,7 +48,7 @@ largest_sample = 1048576
 
 -- a sample has at least one byte of code, and no more than these
 abbrev pub HasSize : Work → Type 0
-HasSize (ToRewrite output) = Unit {0}
+HasSize (ToRewrite which output) = Unit {0}
 HasSize (ToTrace steps) = Unit {0}
 HasSize ToList = Unit {0}
 HasSize (ToSample number size output) = (1 ≤ size) × (size ≤ largest_sample)
@@ -68,12 +72,27 @@ abbrev pub number_within : ℕ → ℕ → List ℕ → Option ℕ
 number_within low high word =
     option_and_then (λ n. if nat_le low n && nat_le n high then Some n else None) (number_of word)
 
--- `rewrite` and two names
+-- the rule of a word that is `--count=` and the text of a rule
+unfoldable pub option_rule : List ℕ → Option Rule
+option_rule word = if bytes_eq (take 8 word) (codes "--count=") then rule_of (drop 8 word) else None
+
+-- `rewrite` and two names: no site is counted
 abbrev pub rewrite_words : List (List ℕ) → Option Asked
 rewrite_words (command ∷ input ∷ output ∷ []) =
     if bytes_eq command (codes "rewrite") && is_name input && is_name output
-    then Some (record { reads = input ∷ []; work = ToRewrite output }) else None
+    then Some (record { reads = input ∷ []; work = ToRewrite rule.None output }) else None
 rewrite_words _ = None
+
+-- the same, and behind it the word of a rule
+unfoldable pub counting_asked : List ℕ → List (List ℕ) → List ℕ → List ℕ → Option Asked
+counting_asked command reads output option =
+    if bytes_eq command (codes "rewrite") && is_name output
+    then option_map (λ which. record { reads = reads; work = ToRewrite which output }) (option_rule option) else None
+
+abbrev pub counting_words : List (List ℕ) → Option Asked
+counting_words (command ∷ input ∷ output ∷ option ∷ []) =
+    if is_name input then counting_asked command (input ∷ []) output option else None
+counting_words _ = None
 
 -- `trace`, two names and a number
 abbrev pub trace_words : List (List ℕ) → Option Asked
@@ -108,14 +127,32 @@ or_asked None other = other
 -- what the words ask for; none where they are no command
 abbrev pub asked_of : List (List ℕ) → Option Asked
 asked_of words =
-    or_asked (or_asked (or_asked (rewrite_words words) (trace_words words)) (list_words words)) (sample_words words)
+    or_asked (or_asked (or_asked (or_asked (rewrite_words words) (counting_words words)) (trace_words words)) (list_words words)) (sample_words words)
 
--- the same of a command that was read from words
+-- the same of a command that was read from words; the rule of a text that is one
+abbrev pub rule_or_none : List ℕ → Rule
+rule_or_none text = unwrap_or (rule_of text) rule.None
+
+abbrev pub named : Option (Bor (List ℕ)) → Rule
+named None = rule.None
+named (Some text) = rule_or_none text.now
+
 abbrev pub work_of : Task → Work
-work_of (Rewrite output) = ToRewrite output.now
+work_of (Rewrite output text) = ToRewrite (named text) output.now
 work_of (Trace steps) = ToTrace steps
 work_of Listing = ToList
 work_of (Sample number size output) = ToSample number size output.now
+
+-- a text that a rewriting task has for a rule is one
+abbrev pub IsRuled : Option (Bor (List ℕ)) → Type 0
+IsRuled None = Unit {0}
+IsRuled (Some text) = IsSome (rule_of text.now)
+
+abbrev pub HasRule : Task → Type 0
+HasRule (Rewrite output text) = IsRuled text
+HasRule (Trace steps) = Unit {0}
+HasRule Listing = Unit {0}
+HasRule (Sample number size output) = Unit {0}
 
 abbrev pub asked : Command → Asked
 asked c = record { reads = texts c.reads.now; work = work_of c.task }

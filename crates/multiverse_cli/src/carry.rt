@@ -3,7 +3,7 @@
 ghost use Rattle.std.specs.Prelude.{◌≡◌, ◌≢◌, ◌≤◌, ℕ, List, length};
 ghost use Rattle.multiverse_cli.specs.Outside.{KeepsOthers, stored};
 ghost use Rattle.multiverse_cli.specs.Steps.{Attempts, Carries, ReadsFile, ReadsFiles, WritesFile};
-ghost use Rattle.multiverse_cli.specs.Words.{HasSize, asked, asked_of, input_count, texts, work_of};
+ghost use Rattle.multiverse_cli.specs.Words.{HasRule, HasSize, asked, asked_of, input_count, texts, work_of};
 
 use crate::failure::Failure;
 use crate::listing::Printout;
@@ -37,6 +37,7 @@ fn carry_out<'a, S: Store>(
 ) -> Result<Printout, Failure<'a>>
     requires inputs { length command.now.reads.now ≡ input_count (work_of command.now.task) }
     requires sized { HasSize (work_of command.now.task) }
+    requires ruled { HasRule command.now.task }
     ensures { Carries result (asked command.now) (stored S.Store store.old store.new) }
 {
     let files = read_files(alloc, command.reads, store)?;

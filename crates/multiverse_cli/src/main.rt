@@ -20,7 +20,13 @@ ghost use Rattle.std.specs.Prelude.{◌≡◌};
 ghost use Rattle.multiverse_cli.specs.Wordless.{wordless_code as wordless_code_of};
 
 mod carry;
+#[cfg(test)]
+mod counted_rows;
 mod failure;
+#[cfg(test)]
+mod hostile_rows;
+#[cfg(test)]
+mod inner_rows;
 mod listing;
 #[cfg(test)]
 mod listings;

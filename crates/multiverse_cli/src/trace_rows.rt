@@ -27,7 +27,7 @@ struct Row {
 }
 
 /// Registers and flags of which only ESP isn't as at the start of all.
-const AT_REST: &str =
+pub(crate) const AT_REST: &str =
     "regs 00000000 00000000 00000000 00000000 bfffefe0 00000000 00000000 00000000\nflags 00000202\n";
 
 /// Maps the whole file, of 90 bytes.
@@ -319,7 +319,7 @@ const INDIRECT: [Row; 8] = [
 ];
 
 /// A store that holds an image and a log.
-fn store_of(alloc: Global, image: &[u8], log: &str) -> Result<MemStore, Fail> {
+pub(crate) fn store_of(alloc: Global, image: &[u8], log: &str) -> Result<MemStore, Fail> {
     let mut store = MemStore::new(alloc, Vec::new(alloc), Vec::new(alloc))?;
     store.add("a", image)?;
     store.add("l", log.as_bytes())?;
@@ -344,7 +344,7 @@ fn check_words(
 }
 
 /// Runs the words of a trace, and compares what is printed with the lines of the state and the end.
-fn check_trace(
+pub(crate) fn check_trace(
     rt: &(impl AllocGlobal + Abort),
     store: &mut MemStore,
     words: &[&str],

@@ -1,22 +1,28 @@
 //! What comes of the files that a command reads: a text to print and a file to write, or what they lack. No file and no
 //! output is touched here.
 
-ghost use Rattle.std.specs.Prelude.{◌≡◌, ◌≤◌, length};
+ghost use Rattle.std.specs.Prelude.{◌≡◌, ◌≤◌, length, IfOk};
+ghost use Rattle.counter_hooks.specs.Rules.{IsAscending, Tells, picked as is_picked};
+ghost use Rattle.elf32_write.specs.Frame.{Frame};
+ghost use Rattle.mv_rewrite.specs.OutputFile.{IsWrittenFor};
+ghost use Rattle.mv_rewrite.specs.Rewriting.{IsRewritten};
+ghost use Rattle.simulation_laws.specs.Stopping.{Simulates};
 ghost use Rattle.multiverse_cli.specs.Answers.{Fits};
 ghost use Rattle.multiverse_cli.specs.Commands.{IsListing, IsNotListed, IsNotRewritten, IsNotTraced, IsRewriting, IsSampling, IsTracing};
 ghost use Rattle.multiverse_cli.specs.Verdicts.{AllFit, IsVerdict, IsVerdictOf};
-ghost use Rattle.multiverse_cli.specs.Words.{HasSize, ToList, ToRewrite, ToSample, ToTrace, input_count, work_of};
+ghost use Rattle.multiverse_cli.specs.Words.{HasRule, HasSize, IsRuled, ToList, ToRewrite, ToSample, ToTrace, input_count, named, work_of};
 
 use crate::failure::Objection;
 use crate::listing::{Listing, Printout};
 use crate::sample::{LARGEST, sample};
 use crate::texts::{rewritten_text, sample_text};
 use crate::words::Task;
+use counter_hooks::{Hooks, Question, Rule, picked, read_rule};
 use elf32_read::{admit, read_image, runs};
-use mv_base::Bytes;
-use mv_rewrite::rewrite;
+use mv_base::{Bytes, NoMemory};
+use mv_rewrite::{RewriteFault, Rewritten, rewrite};
 use std::alloc::Global;
-use superset::sites;
+use superset::{Site, sites};
 use syscall_log::read_log;
 use trace_run::{report_text, trace};
 
@@ -43,10 +49,13 @@ pub fn verdict<'a>(
     requires count { length files.now ≡ input_count (work_of task.now) }
     requires fit { AllFit files.now }
     requires sized { HasSize (work_of task.now) }
+    requires ruled { HasRule task.now }
     ensures { IsVerdict (work_of task.now) files.now result }
 {
     match (*task, files) {
-        (Task::Rewrite { output }, [image]) => rewritten(alloc, output, image.as_slice()),
+        (Task::Rewrite { output, rule }, [image]) => {
+            rewritten(alloc, output, rule, image.as_slice())
+        }
         (Task::Trace { steps }, [image, log]) => {
             traced(alloc, image.as_slice(), log.as_slice(), steps)
         }
@@ -63,12 +72,22 @@ pub fn verdict<'a>(
     }
 }
 
-/// The rewritten image, which is written to `output`, and its numbers.
-fn rewritten<'a>(alloc: Global, output: &'a str, image: &[u8]) -> Result<Delivery<'a>, Objection>
-    requires { Fits image.now }
-    ensures { IsVerdictOf (IsNotRewritten image.now) (IsRewriting output.now image.now) result }
+/// The rewritten image, with a counter at each site that the rule of a text picks, which is written to `output`, and its
+/// numbers.
+fn rewritten<'a>(
+    alloc: Global,
+    output: &'a str,
+    rule: Option<&str>,
+    image: &[u8],
+) -> Result<Delivery<'a>, Objection>
+    requires fits { Fits image.now }
+    requires ruled { IsRuled rule }
+    ensures { IsVerdictOf (IsNotRewritten image.now (named rule.entry))
+        (IsRewriting output.now image.now (named rule.entry)) result }
 {
-    let rewritten = rewrite(alloc, image)?;
+    let counted = named_rule(alloc, rule)?;
+    let asked = counted.copied(alloc)?;
+    let rewritten = rewritten_by(alloc, image, counted, |site: &Site| picked(&asked, site))?;
     let text = rewritten_text(alloc, &rewritten)?;
     Ok(Delivery {
         text: Printout::Text(text),
@@ -77,6 +96,38 @@ fn rewritten<'a>(alloc: Global, output: &'a str, image: &[u8]) -> Result<Deliver
             bytes: rewritten.bytes,
         }),
     })
+}
+
+/// The output of an image by a rule, and by a question that answers by it.
+fn rewritten_by<F: Question + Drop>(
+    alloc: Global,
+    image: &[u8],
+    rule: Rule,
+    ask: F,
+) -> Result<Rewritten, RewriteFault>
+    requires fits { Fits image.now }
+    requires ascends { IsAscending rule }
+    requires tells { Tells (F.answers ask) (is_picked rule) }
+    ensures rewritten { IsRewritten image.now rule result }
+    ensures simulates { IfOk result (λ r. Simulates image.now r.bytes) }
+    ensures written { IfOk result (λ r. (f : Frame) × IsWrittenFor image.now rule r.bytes f) }
+{
+    rewrite(alloc, image, &Hooks::new(rule, ask))
+}
+
+/// The rule of a text that has one; that no site is counted, where there is no text.
+fn named_rule(alloc: Global, text: Option<&str>) -> Result<Rule, NoMemory>
+    requires { IsRuled text }
+    ensures is { IfOk result (λ rule. rule ≡ named text.entry) }
+    ensures ascends { IfOk result IsAscending }
+{
+    let Some(text) = text else {
+        return Ok(Rule::None);
+    };
+    match read_rule(alloc, text)? {
+        Some(rule) => Ok(rule),
+        None => unreachable!(),
+    }
 }
 
 /// The report of an image that is run on a log.
@@ -127,7 +178,7 @@ fn sampled<'a>(
     ensures { IsVerdictOf (λ _. ⊥) (IsSampling number size output.now) result }
 {
     let image = sample(alloc, number, size)?;
-    let rewritten = rewrite(alloc, image.as_slice())?;
+    let rewritten = rewritten_by(alloc, image.as_slice(), Rule::None, |_: &Site| false)?;
     let text = sample_text(alloc, rewritten.sites, image.len(), rewritten.bytes.len())?;
     Ok(Delivery {
         text: Printout::Text(text),

@@ -1,18 +1,22 @@
 //! The words with which the program is called.
 
-ghost use Rattle.std.specs.Prelude.{◌≡◌, ◌≤◌, IfSome, length};
+ghost use Rattle.std.specs.Prelude.{◌≡◌, ◌≤◌, IfSome, IsSome, length};
 ghost use Rattle.std.specs.Option.{option_map};
-ghost use Rattle.multiverse_cli.specs.Words.{asked, asked_of, input_count, is_name as is_name_of, HasSize, list_words, number_of, number_within as number_within_of, rewrite_words, sample_words, texts, trace_words, work_of};
+ghost use Rattle.counter_hooks.specs.RuleTexts.{rule_of};
+ghost use Rattle.multiverse_cli.specs.Words.{asked, asked_of, input_count, is_name as is_name_of, HasRule, HasSize, list_words, number_of, number_within as number_within_of, option_rule, rewrite_words, rule_or_none, counting_asked, counting_words, sample_words, texts, trace_words, work_of};
 
 use crate::sample::LARGEST;
+use counter_hooks::is_rule;
 use itoa::Buffer;
 
 /// What is done with the files that a command reads.
 #[derive(Clone, Copy)]
 pub enum Task<'a> {
-    /// Write to `output` the rewritten image, which the one file holds.
+    /// Write to `output` the rewritten image, which the one file holds, with a counter at each site that the rule of this
+    /// text picks; without a text at none.
     Rewrite {
         output: &'a str,
+        rule: Option<&'a str>,
     },
     /// Run the image, which the first file holds, on the log in the second, for at most `steps` steps.
     Trace {
@@ -40,8 +44,10 @@ pub fn read_command(words: &[String]) -> Option<Command<'_>>
     ensures is { option_map asked result ≡ asked_of (texts words.now) }
     ensures inputs { IfSome result (λ c. length c.reads.now ≡ input_count (work_of c.task)) }
     ensures sized { IfSome result (λ c. HasSize (work_of c.task)) }
+    ensures ruled { IfSome result (λ c. HasRule c.task) }
 {
     rewrite_command(words)
+        .or_else(|| counting_command(words))
         .or_else(|| trace_command(words))
         .or_else(|| list_command(words))
         .or_else(|| sample_command(words))
@@ -52,6 +58,7 @@ fn rewrite_command(words: &[String]) -> Option<Command<'_>>
     ensures is { option_map asked result ≡ rewrite_words (texts words.now) }
     ensures inputs { IfSome result (λ c. length c.reads.now ≡ input_count (work_of c.task)) }
     ensures sized { IfSome result (λ c. HasSize (work_of c.task)) }
+    ensures ruled { IfSome result (λ c. HasRule c.task) }
 {
     match words {
         [command, input, output]
@@ -62,6 +69,7 @@ fn rewrite_command(words: &[String]) -> Option<Command<'_>>
                 reads: &words[1..2],
                 task: Task::Rewrite {
                     output: output.as_str(),
+                    rule: None,
                 },
             })
         }
@@ -69,11 +77,68 @@ fn rewrite_command(words: &[String]) -> Option<Command<'_>>
     }
 }
 
+/// `rewrite IN OUT --count=RULE`.
+fn counting_command(words: &[String]) -> Option<Command<'_>>
+    ensures is { option_map asked result ≡ counting_words (texts words.now) }
+    ensures inputs { IfSome result (λ c. length c.reads.now ≡ input_count (work_of c.task)) }
+    ensures sized { IfSome result (λ c. HasSize (work_of c.task)) }
+    ensures ruled { IfSome result (λ c. HasRule c.task) }
+{
+    match words {
+        [command, input, output, option] if is_name(input.as_str()) => counting(
+            command.as_str(),
+            &words[1..2],
+            output.as_str(),
+            option.as_str(),
+        ),
+        _ => None,
+    }
+}
+
+/// The command of these words, where the one file that is read has a name.
+#[tactic(auto, unfolding(crate::specs::Words::counting_asked))]
+fn counting<'a>(
+    command: &str,
+    reads: &'a [String],
+    output: &'a str,
+    option: &'a str,
+) -> Option<Command<'a>>
+    requires { length reads.now ≡ 1 }
+    ensures is { option_map asked result ≡ counting_asked command.now (texts reads.now) output.now
+        option.now }
+    ensures inputs { IfSome result (λ c. length c.reads.now ≡ input_count (work_of c.task)) }
+    ensures sized { IfSome result (λ c. HasSize (work_of c.task)) }
+    ensures ruled { IfSome result (λ c. HasRule c.task) }
+{
+    if command != "rewrite" || !is_name(output) {
+        return None;
+    }
+    let rule = counted(option)?;
+    Some(Command {
+        reads,
+        task: Task::Rewrite {
+            output,
+            rule: Some(rule),
+        },
+    })
+}
+
+/// The text of the rule of a word `--count=RULE`; `None` where it is no such word.
+#[tactic(auto, unfolding(crate::specs::Words::option_rule))]
+fn counted(option: &str) -> Option<&str>
+    ensures is { option_map (λ text. rule_or_none text.now) result ≡ option_rule option.now }
+    ensures ruled { IfSome result (λ text. IsSome (rule_of text.now)) }
+{
+    let text = option.strip_prefix("--count=")?;
+    if is_rule(text) { Some(text) } else { None }
+}
+
 /// `trace IN LOG STEPS`.
 fn trace_command(words: &[String]) -> Option<Command<'_>>
     ensures is { option_map asked result ≡ trace_words (texts words.now) }
     ensures inputs { IfSome result (λ c. length c.reads.now ≡ input_count (work_of c.task)) }
     ensures sized { IfSome result (λ c. HasSize (work_of c.task)) }
+    ensures ruled { IfSome result (λ c. HasRule c.task) }
 {
     match words {
         [command, input, log, steps]
@@ -93,6 +158,7 @@ fn list_command(words: &[String]) -> Option<Command<'_>>
     ensures is { option_map asked result ≡ list_words (texts words.now) }
     ensures inputs { IfSome result (λ c. length c.reads.now ≡ input_count (work_of c.task)) }
     ensures sized { IfSome result (λ c. HasSize (work_of c.task)) }
+    ensures ruled { IfSome result (λ c. HasRule c.task) }
 {
     match words {
         [command, input] if command.as_str() == "list" && is_name(input.as_str()) => {
@@ -110,6 +176,7 @@ fn sample_command(words: &[String]) -> Option<Command<'_>>
     ensures is { option_map asked result ≡ sample_words (texts words.now) }
     ensures inputs { IfSome result (λ c. length c.reads.now ≡ input_count (work_of c.task)) }
     ensures sized { IfSome result (λ c. HasSize (work_of c.task)) }
+    ensures ruled { IfSome result (λ c. HasRule c.task) }
 {
     match words {
         [command, number, size, output]

@@ -2,8 +2,8 @@ use Rattle.std.proofs.Common.{◌∙◌}
 use Rattle.multiverse_cli.proofs.Samples.{fits, not-sampled}
 use Rattle.multiverse_cli.proofs.verdict.sampled.Goals as goal
 
-pub rewrite-requires : goal.rewrite-requires
-rewrite-requires c =
+pub rewritten_by-requires-clause-fits : goal.rewritten_by-requires-clause-fits
+rewritten_by-requires-clause-fits c =
     fits c.args.number c.args.size c.as_slice.result.now (c.as_slice.ensures.value ∙ c.in_ok-image.ensures) c.requires.most
 
 pub returns-in_err-rewritten : goal.returns-in_err-rewritten
