@@ -1,4 +1,4 @@
-// Writes commands for the program `probe` to the file that the first word names, and the expected answers to the second:
+// Writes operations to the file that the first word names, a line each, and the expected answers to the second:
 // values and flags as this machine's processor gives them. The flags that the Intel manual leaves undefined are this
 // project's own, 0 but for SF after IMUL, and are written so. Random numbers are from a fixed seed.
 #include <setjmp.h>

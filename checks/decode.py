@@ -1,17 +1,21 @@
 #!/usr/bin/env python3
-"""Compares the decoder with objdump: length and text of generated spellings, and of random bytes.
+"""Compares `list` with objdump: length and text of generated spellings, and of random bytes.
 
-    decode.py PROBE
+    decode.py MULTIVERSE
 
 The spelling table stands here a second time, as rows of opcode bytes, ModRM and immediate, so that the lengths, and which
-bytes begin no instruction, are compared with it too. Where the decoder answers `unknown` and objdump shows an instruction,
-the bytes must be of a class of docs/NARROWER.md. Random choices are from a fixed seed.
+bytes begin no instruction, are compared with it too. Where `list` has no site and objdump shows an instruction, the bytes must be
+of a class of docs/NARROWER.md. The table of docs/NARROWER.md says how the texts differ; `plain` is that table. Fronts of spellings
+stand in segments of their own, where they are sites exactly as whole spellings. Random choices are from a fixed seed.
 """
-import collections, random, re, subprocess, sys, tempfile
+import collections, os, random, re, struct, subprocess, sys, tempfile
+
+from oracles import small_image
 
 SEGMENTS, REPEATS, WORD = (0x26, 0x2E, 0x36, 0x3E), (0xF0, 0xF2, 0xF3), 0x66
 PREFIXES = SEGMENTS + REPEATS + (WORD,)
 SLOT, LONGEST, SHOWN = 32, 15, 40
+FIRST, SEGMENTS_EACH, PAGE = 0x08048054, 61, 4096
 IMMEDIATES = {"": (0, 0), "ib": (1, 1), "iw": (2, 2), "id": (4, 4), "iz": (4, 2)}
 
 
@@ -197,9 +201,8 @@ def address(match):
     return "[" + "+".join(shown + [hex(displacement)] * (displacement != 0 or not shown)) + "]"
 
 
-def plain(text, end):
-    """objdump's text in the words of the SDM, without prefixes that have no effect; a jump's target as the distance from
-    the instruction's end."""
+def plain(text):
+    """objdump's text in the words of the SDM, without prefixes that have no effect."""
     words, repeat = text.split(), ""
     while words and words[0] in IDLE | set(REPEAT):
         repeat = REPEAT.get(words.pop(0), repeat)
@@ -208,14 +211,12 @@ def plain(text, end):
     if string:
         return repeat + string.group(1) + string.group(2).lower()
     if re.match(r"xlat|nop|xchg ax,ax", text):
-        return text.split()[0].replace("xchg", "nop")
+        return text.split()[0].replace("xchg", "nop").replace("xlat", "xlatb")
     text = re.sub(r"\b[cdes]s:(0x[0-9a-f]+)", r"[\1]", re.sub(r"\b[cdes]s:\[", "[", text))
     text = re.sub(r"\b(BYTE|WORD|DWORD) PTR ", lambda size: size.group(1).lower() + " ", text)
     text = re.sub(r"\[([^\]]*)\]", address, text)
     text = re.sub(r"^mov (al|ax|eax),\[", lambda mov: f"mov {mov.group(1)},{WIDTHS[mov.group(1)]} [", text)
     text = re.sub(r"^mov \[(.*),(al|ax|eax)$", lambda mov: f"mov {WIDTHS[mov.group(2)]} [{mov.group(1)},{mov.group(2)}", text)
-    text = re.sub(r"^(j\w+|call|loop\w*) (0x[0-9a-f]+)$",
-                  lambda jump: f"{jump.group(1)} {(int(jump.group(2), 16) - end) % 2**32:#x}", text)
     text = re.sub(r",1$", ",0x1", text)
     if text.startswith(("ret", "pause")):
         return text.removesuffix(" 0x0")
@@ -254,59 +255,90 @@ def narrower(data, text, names):
         if all(not match or count + match[1] > LONGEST for match in found):
             return "more than 15 bytes"
         return "prefixes that an instruction has no use for"
-    if mnemonic(plain(text, 0)) not in names:
+    if mnemonic(plain(text)) not in names:
         return "instructions outside the profile"
     return next((why for why, pattern in FORMS if re.match(pattern, rest.hex())), None)
 
 
-def ask(program, asked):
-    """The program's answers, in order."""
-    lines = "".join(f"decode {data.hex()}\n" for data in asked)
-    return subprocess.run([program], input=lines, capture_output=True, check=True, text=True).stdout.splitlines()
+def listed(multiverse, image):
+    """What `list` shows of an image: by address, the bytes and the text of each site."""
+    with tempfile.NamedTemporaryFile() as file:
+        file.write(image)
+        file.flush()
+        text = subprocess.run([multiverse, "list", file.name], capture_output=True, check=True, text=True).stdout
+    lines = [line.split(" ", 2) for line in text.splitlines()]
+    return {int(at, 16): (shown, rest) for at, shown, rest in lines}
+
+
+def slots(made):
+    return b"".join(data.ljust(SLOT, b"\x90") for data in made)
+
+
+def ask(multiverse, made):
+    """What `list` shows at the first address of each slot: the length and the text, or None where there is no site."""
+    sites = listed(multiverse, small_image(slots(made), FIRST))
+    found = [sites.get(FIRST + SLOT * k) for k in range(len(made))]
+    return [site and (len(site[0]) // 2, site[1]) for site in found]
+
+
+def ask_fronts(multiverse, fronts):
+    """What `list` shows of bytes behind which a run ends, in the same way."""
+    answers = []
+    for begin in range(0, len(fronts), SEGMENTS_EACH):
+        part = fronts[begin:begin + SEGMENTS_EACH]
+        head = bytearray(small_image(b"")[:52])
+        struct.pack_into("<H", head, 44, len(part))
+        start, body, headers = 52 + 32 * len(part), b"", b""
+        places = []
+        for k, data in enumerate(part):
+            offset = start + len(body)
+            places.append(FIRST // PAGE * PAGE + 2 * PAGE * k + offset % PAGE)
+            headers += struct.pack("<8I", 1, offset, places[-1], 0, len(data), len(data), 5, PAGE)
+            body += data
+        sites = listed(multiverse, bytes(head) + headers + body)
+        answers += [sites[at] and (len(sites[at][0]) // 2, sites[at][1]) if at in sites else None for at in places]
+    return answers
 
 
 def dump(made):
-    """By address, the length and text of what objdump shows of slots that begin with the samples and end with NOPs."""
+    """By slot, the length and text of what objdump shows of slots that begin with the samples and end with NOPs."""
     with tempfile.NamedTemporaryFile() as file:
-        file.write(b"".join(data.ljust(SLOT, b"\x90") for data in made))
+        file.write(slots(made))
         file.flush()
-        words = "objdump -D -z -w --insn-width=16 -b binary -m i386 -M intel".split()
+        words = f"objdump -D -z -w --insn-width=16 -b binary -m i386 -M intel --adjust-vma={FIRST:#x}".split()
         text = subprocess.run(words + [file.name], capture_output=True, check=True, text=True).stdout
     found = re.findall(r"^ *([0-9a-f]+):\t([0-9a-f ]+)\t?(.*)$", text, re.MULTILINE)
-    return {int(at, 16): (len(shown.split()), line) for at, shown, line in found}
+    shown = {int(at, 16) - FIRST: (len(data.split()), line) for at, data, line in found}
+    return [shown[SLOT * k] for k in range(len(made))]
 
 
 def main():
     rng = random.Random(20180218)
+    multiverse = os.path.abspath(sys.argv[1])
     made = list(dict.fromkeys(samples(rng)))
-    cut = [rng.choice(made) for _ in range(4000)]
-    asked = [data[:20] for data in made] + [data[:rng.randrange(len(data))] for data in cut]
-    answers = ask(sys.argv[1], asked)
-    shown = dump(made)
-    names = {mnemonic(answer.partition(" ")[2]) for answer in answers}
+    cut = [data[:rng.randrange(1, len(data))] for data in (rng.choice(made) for _ in range(3000)) if len(data) > 1]
+    answers, names = ask(multiverse, made), set()
     bad, classes, good = [], collections.Counter(), 0
-    for index, (data, answer) in enumerate(zip(asked, answers)):
-        length, _, text = answer.partition(" ")
+    names = {mnemonic(text) for _, text in filter(None, answers)}
+    for data, answer in zip(cut, ask_fronts(multiverse, cut), strict=True):
         want = expected(data)
-        if length != want:
+        if (str(answer[0]) if answer else "none") != (want if want.isdigit() else "none"):
+            bad.append(f"{data.hex()} at a run's end: {answer}, but by the table {want}")
+    for data, answer, (theirs, line) in zip(made, answers, dump(made), strict=True):
+        want = expected(data.ljust(SLOT, b"\x90"))
+        if (str(answer[0]) if answer else "none") != (want if want.isdigit() else "none"):
             bad.append(f"{data.hex()}: {answer}, but by the table {want}")
-            continue
-        if index >= len(made):
-            continue
-        theirs, line = shown[index * SLOT]
-        if text:
-            line = plain(line, index * SLOT + theirs)
-            if all(byte in PREFIXES for byte in data[:14]):
-                classes["fourteen prefixes"] += 1  # objdump shows these as a line of their own
-                continue
-            good += 1
-            if (theirs, line) != (int(length), text):
-                bad.append(f"{data.hex()}: {answer}, but objdump {theirs} {line}")
-        else:
-            why = narrower(data, line, names)
+        elif not answer:
+            why = narrower(data.ljust(SLOT, b"\x90"), line, names)
             classes[why] += 1
             if why is None:
-                bad.append(f"{data.hex()}: {answer}, but objdump {theirs} {line}")
+                bad.append(f"{data.hex()}: no site, but objdump {theirs} {line}")
+        elif all(byte in PREFIXES for byte in data[:14]):
+            classes["fourteen prefixes"] += 1  # objdump shows these as a line of their own
+        else:
+            good += 1
+            if (theirs, plain(line)) != answer:
+                bad.append(f"{data.hex()}: {answer}, but objdump {theirs} {plain(line)}")
     for line in bad[:SHOWN]:
         print(line)
     if bad:

@@ -1,18 +1,23 @@
 #!/usr/bin/env python3
-"""Runs random straight-line programs on the user machine and on this processor, and compares the memory that they leave.
+"""Traces random straight-line programs and runs them on this processor, and compares the memory that they leave.
 
-    machine.py PROBE FOLDER
+    machine.py MULTIVERSE FOLDER
 
-Each program sets registers and flags, runs some two hundred data instructions with operands in registers and in its data,
-stores registers and flags after each, writes its data and what it stored to standard output and ends. What the Intel manual
-leaves undefined is hidden after each instruction: such flags are cleared, and such a register is set anew. The programs are
-from a fixed seed.
+Each program sets registers and flags, runs some two hundred data instructions with operands in registers and in its data, and
+stores registers and flags after each. On the processor it then writes its data and what it stored to standard output; where it
+is traced it makes system calls instead, with the next seven words of them in the registers that a trace prints. What the Intel
+manual leaves undefined is hidden after each instruction: such flags are cleared, and such a register is set anew. Each tenth
+program is rewritten too, and what it is rewritten to must trace alike. The programs are from a fixed seed.
 """
-import os, random, subprocess, sys
+import os, random, struct, subprocess, sys
 
 PROGRAMS, INSTRUCTIONS = 300, 200
 DATA, STACK, SAVED, RECORD = 0x08060000, 0x08060400, 0x08060800, 36
-SIZE = SAVED - DATA + RECORD * INSTRUCTIONS
+# the data and what is stored, in whole system calls of seven words
+CALL = 28
+CALLS = -(-(SAVED - DATA + RECORD * INSTRUCTIONS) // CALL)
+SIZE = CALL * CALLS
+STEPS = 1_000_000
 CF, PF, AF, ZF, SF, DF, OF, ID = 0x1, 0x4, 0x10, 0x40, 0x80, 0x400, 0x800, 0x200000
 DWORDS = "eax ecx edx ebx esp ebp esi edi".split()
 REGISTERS = {8: "al cl dl bl ah ch dh bh".split(), 16: [name[1:] for name in DWORDS], 32: DWORDS}
@@ -31,8 +36,6 @@ class Program:
             self.rng.choice(KINDS)(self)
             self.made.append("; ".join(self.lines[begun:]))
             self.store(SAVED + RECORD * i)
-        self.add("mov eax, 4", "mov ebx, 1", f"mov ecx, {DATA:#x}", f"mov edx, {SIZE:#x}", "int 0x80")
-        self.add("mov eax, 1", "xor ebx, ebx", "int 0x80")
 
     def add(self, *lines):
         self.lines += lines
@@ -42,9 +45,11 @@ class Program:
         self.add(*(f"mov dword ptr [{at + 4 * i:#x}], {name}" for i, name in enumerate(DWORDS)))
         self.add(f"mov esp, {at + RECORD:#x}", "pushfd", f"mov esp, dword ptr [{at + 4 * DWORDS.index('esp'):#x}]")
 
-    def text(self):
+    def text(self, end):
+        """The source of the program with these last lines."""
+        self.rng.seed(len(self.lines))
         data = b"".join(self.rng.choice((self.rng.randbytes(16), self.rng.randbytes(1) * 16)) for _ in range(0x80))
-        return "\n".join([".intel_syntax noprefix", ".globl _start", "_start:", *self.lines, ".data",
+        return "\n".join([".intel_syntax noprefix", ".globl _start", "_start:", *self.lines, *end, ".data",
                           ".byte " + ",".join(map(str, data)), f".space {SIZE - len(data)}", ""])
 
     # Operands.
@@ -375,14 +380,35 @@ KINDS = [kind for name, kind in vars(Program).items() if callable(kind) and name
     "label", "count")]
 
 
-def build(folder, seed):
-    """Assembles and links a program; its file."""
-    source, unlinked, file = (os.path.join(folder, f"{seed}{end}") for end in (".s", ".o", ""))
+# The ends of a program: it writes its data, it shows them by system calls, or it stops with its registers and flags as they are.
+WRITES = ("mov eax, 4", "mov ebx, 1", f"mov ecx, {DATA:#x}", f"mov edx, {SIZE:#x}", "int 0x80", "mov eax, 1", "xor ebx, ebx", "int 0x80")
+SHOWS = (f"mov esp, {DATA:#x}", "shows:", *(f"pop {name}" for name in "eax ebx ecx edx esi edi ebp".split()), "int 0x80",
+         f"cmp esp, {DATA + SIZE:#x}", "jb shows", "hlt")
+HALTS = ("hlt",)
+
+
+def build(folder, seed, end):
+    """Assembles and links a program with these last lines; its file."""
+    source, unlinked, file = (os.path.join(folder, f"{seed}{name}") for name in (".s", ".o", f".{end[-1][:3]}"))
     with open(source, "w") as out:
-        out.write(Program(seed).text())
+        out.write(Program(seed).text(end))
     subprocess.run(["as", "--32", "-o", unlinked, source], check=True)
     subprocess.run(["ld", "-m", "elf_i386", "-s", f"-Tdata={DATA:#x}", "-o", file, unlinked], check=True)
     return file
+
+
+def run(file, title):
+    """What a program writes on this processor."""
+    written = subprocess.run([file], capture_output=True, timeout=60).stdout
+    if len(written) != SIZE:
+        sys.exit(f"checks/machine: {title} ended early on the processor")
+    return written
+
+
+def shown(text):
+    """The words of the calls that a trace prints, as bytes."""
+    calls = [line.split()[1:] for line in text.splitlines() if line.startswith("call ")]
+    return b"".join(struct.pack("<I", int(word, 16)) for call in calls for word in call)
 
 
 def difference(seed, want, found):
@@ -398,22 +424,28 @@ def difference(seed, want, found):
 
 
 def main():
-    program, folder = sys.argv[1:]
-    files = [build(folder, seed) for seed in range(PROGRAMS)]
-    wanted = [subprocess.run([file], capture_output=True).stdout.hex() for file in files]
-    asked = "".join(f"machine {open(file, 'rb').read().hex()}\n" for file in files)
-    given = subprocess.run([program], input=asked, capture_output=True, check=True, text=True).stdout.splitlines()
-    bad = 0
-    for seed, (want, answer) in enumerate(zip(wanted, given, strict=True)):
-        outcome, at, found = (answer.split(" ") + ["", "", ""])[:3]
-        if len(want) != 2 * SIZE:
-            sys.exit(f"checks/machine: program {seed} ended early on the processor")
-        if (outcome, found) != ("gone", want):
-            print(f"program {seed}:", difference(seed, want, found) if outcome == "gone" else f"{outcome} at {at}")
+    multiverse, folder = sys.argv[1:]
+    log, output, bad, rewritten = os.path.join(folder, "log"), os.path.join(folder, "output"), 0, 0
+    with open(log, "w") as out:
+        out.write("log 1\n" + "ret 00000000\n" * CALLS)
+    for seed in range(PROGRAMS):
+        file, want = build(folder, seed, SHOWS), run(build(folder, seed, WRITES), f"program {seed}").hex()
+        traced = lambda name: subprocess.run([multiverse, "trace", name, log, str(STEPS)], capture_output=True, text=True).stdout
+        text = traced(file)
+        if shown(text).hex() != want:
+            found = shown(text).hex()
+            print(f"program {seed}:", difference(seed, want, found) if len(found) == len(want) else text.splitlines()[-2:])
             bad += 1
+        elif seed % 10 == 0:
+            subprocess.run([multiverse, "rewrite", file, output], check=True, capture_output=True)
+            if traced(output).splitlines()[:-1] != text.splitlines()[:-1]:
+                print(f"program {seed}: what it is rewritten to traces otherwise")
+                bad += 1
+            rewritten += 1
     if bad:
         sys.exit(f"checks/machine: {bad} of {PROGRAMS} programs end differently")
-    print(f"checks/machine: {PROGRAMS} programs of {INSTRUCTIONS} instructions leave the memory that the processor leaves")
+    print(f"checks/machine: {PROGRAMS} programs of {INSTRUCTIONS} instructions leave the memory that the processor leaves, "
+          f"{rewritten} of them rewritten too")
 
 
 if __name__ == "__main__":

@@ -9,7 +9,7 @@ those of checks/machine: the registers and flags with which a trace ends are tho
 """
 import glob, os, re, struct, subprocess, sys
 
-from machine import DWORDS, INSTRUCTIONS, RECORD, SAVED, DATA, Program
+from machine import DATA, HALTS, INSTRUCTIONS, RECORD, DWORDS, SAVED, WRITES, build, run
 
 HERE = os.path.dirname(os.path.abspath(__file__))
 OPTIONS = ("-m32 -static -nostdlib -ffreestanding -fno-pic -fno-stack-protector -fcf-protection=none "
@@ -116,21 +116,10 @@ def same(multiverse, original, answers, first, title, work, differences, argumen
 
 
 def built(work, seed):
-    """A random program, and the same with `hlt` in place of its end; and what the processor stored last."""
-    program, files = Program(seed), []
-    tails = program.lines[-8:], ["hlt"] + ["nop"] * 7
-    for tail, name in zip(tails, ("stores", "halts")):
-        program.lines[-len(tails[0] if name == "stores" else tails[1]):] = tail
-        source, unlinked, file = (os.path.join(work, name + end) for end in (".s", ".o", ""))
-        program.rng.seed(seed)
-        with open(source, "w") as out:
-            out.write(program.text())
-        subprocess.run(["as", "--32", "-o", unlinked, source], check=True)
-        subprocess.run(["ld", "-m", "elf_i386", "-s", f"-Tdata={DATA:#x}", "-o", file, unlinked], check=True)
-        files.append(file)
-    stored = subprocess.run([files[0]], capture_output=True, timeout=60).stdout
+    """A random program that halts at its end, and what the processor stored last where it writes instead."""
+    stored = run(build(work, seed, WRITES), f"random program {seed}")
     last = SAVED - DATA + RECORD * (INSTRUCTIONS - 1)
-    return files[1], struct.unpack("<9I", stored[last:last + RECORD])
+    return build(work, seed, HALTS), struct.unpack("<9I", stored[last:last + RECORD])
 
 
 def randomly(multiverse, work):
