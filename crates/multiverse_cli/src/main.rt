@@ -25,8 +25,6 @@ mod counted_rows;
 mod failure;
 #[cfg(test)]
 mod hostile_rows;
-#[cfg(test)]
-mod inner_rows;
 mod listing;
 #[cfg(test)]
 mod listings;
