@@ -22,6 +22,7 @@ pub mod Moves
 pub mod Arithmetic
 pub mod Strings
 pub mod Transfers
+pub mod Segments
 pub mod Round
 pub mod Step
 pub mod Run

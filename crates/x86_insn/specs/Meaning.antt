@@ -11,6 +11,8 @@ use Rattle.x86_insn.specs.declared.insn.Src.TheVariants as src
 use Rattle.x86_insn.specs.declared.insn.Count.TheVariants as count
 use Rattle.x86_insn.specs.declared.insn.Cond.{Cond}
 use Rattle.x86_insn.specs.declared.insn.Cond.TheVariants.{O, No, B, Ae, E, Ne, Be, A, S, Ns, P, Np, L, Ge, Le, G}
+use Rattle.x86_insn.specs.declared.insn.Width.{Width}
+use Rattle.x86_insn.specs.declared.insn.Width.TheVariants as width
 use Rattle.x86_insn.specs.declared.row.Kind.{Kind}
 use Rattle.x86_insn.specs.declared.row.Kind.TheVariants as kind
 use Rattle.x86_insn.specs.declared.row.Operands.{Operands}
@@ -67,6 +69,11 @@ at_address a = record { base = None; index = None; disp = a }
 abbrev pub memory_in : Rm → Mem
 memory_in (rm.R r) = at_address 0
 memory_in (rm.M m) = m
+
+-- a selector has two bytes in memory
+abbrev pub selector_width : Width → Rm → Width
+selector_width w (rm.R r) = w
+selector_width w (rm.M m) = width.W
 
 abbrev pub meaning : Kind → Operands → Insn
 meaning (kind.AluRmReg op) o = insn.Alu op o.width o.marks.lock o.rm (src.R o.reg)
@@ -126,6 +133,9 @@ meaning kind.Sahf o = insn.Sahf
 meaning kind.Nop o = insn.Nop
 meaning kind.Pause o = insn.Pause
 meaning kind.Endbr o = insn.Endbr
+meaning kind.ToGs o = insn.ToGs o.rm
+meaning kind.FromGs o = insn.FromGs (selector_width o.width o.rm) o.rm
+meaning kind.Cpuid o = insn.Cpuid
 meaning kind.Jump o = insn.Jump o.immediate
 meaning kind.Branch o = insn.Branch (cond_of (o.opcode % 16)) o.immediate
 meaning (kind.Loop which) o = insn.Loop which o.immediate

@@ -23,7 +23,7 @@ use Rattle.x86_insn.specs.declared.row.Size.TheVariants.{Byte, Vary, Dword}
 use Rattle.x86_insn.specs.declared.row.Repeat.{Repeat}
 use Rattle.x86_insn.specs.declared.row.Repeat.TheVariants.{Never, Idle, Needed, Rep, Repe}
 use Rattle.x86_insn.specs.declared.row.Kind.{Kind}
-use Rattle.x86_insn.specs.declared.row.Kind.TheVariants.{AluRmReg, AluRegRm, AluAccImm, AluRmImm, TestRmReg, TestAccImm, TestRmImm, MovRmReg, MovRegRm, MovRegImm, MovRmImm, MovAccAt, MovAtAcc, XchgRmReg, XchgRegAcc, Lea, Movx, Bswap, PushReg, PushImm, PushRm, PopReg, PopRm, BumpReg, BumpRm, Unary, Mul, Div, ImulRegRm, ImulRegRmImm, ShiftImm, ShiftOne, ShiftCl, DoubleImm, DoubleCl, BitReg, BitImm, Scan, Cmpxchg, Xadd, Set, Cmov, Cbw, Cwd, Str, Flag, Pushad, Popad, Pushfd, Popfd, Leave, Xlat, Lahf, Sahf, Nop, Pause, Endbr, Jump, Branch, Loop, Call, JumpVia, CallVia, Ret, Int80, Int3, Hlt, Ud2}
+use Rattle.x86_insn.specs.declared.row.Kind.TheVariants.{AluRmReg, AluRegRm, AluAccImm, AluRmImm, TestRmReg, TestAccImm, TestRmImm, MovRmReg, MovRegRm, MovRegImm, MovRmImm, MovAccAt, MovAtAcc, XchgRmReg, XchgRegAcc, Lea, Movx, Bswap, PushReg, PushImm, PushRm, PopReg, PopRm, BumpReg, BumpRm, Unary, Mul, Div, ImulRegRm, ImulRegRmImm, ShiftImm, ShiftOne, ShiftCl, DoubleImm, DoubleCl, BitReg, BitImm, Scan, Cmpxchg, Xadd, Set, Cmov, Cbw, Cwd, Str, Flag, Pushad, Popad, Pushfd, Popfd, Leave, Xlat, Lahf, Sahf, Nop, Pause, Endbr, ToGs, FromGs, Cpuid, Jump, Branch, Loop, Call, JumpVia, CallVia, Ret, Int80, Int3, Hlt, Ud2}
 use Rattle.x86_insn.specs.declared.row.Row.{Row}
 
 -- a row: the bytes before the opcode byte, the first opcode byte, how many there are from it on, what ModRM's reg
@@ -212,6 +212,14 @@ transfers =
     row Escape 0x0B 1 None NoModrm Absent Dword false Never Ud2 ∷
     []
 
+-- MOV to and from GS, CPUID
+abbrev pub system : List Row
+system =
+    row Bare 0x8E 1 (Some 5) Any Absent Vary false Never ToGs ∷
+    row Bare 0x8C 1 (Some 5) Any Absent Vary false Never FromGs ∷
+    row Escape 0xA2 1 None NoModrm Absent Dword false Never Cpuid ∷
+    []
+
 -- all rows
 unfoldable pub rows : List Row
 rows =
@@ -220,4 +228,4 @@ rows =
     ++ shift_rows Rol 0 ++ shift_rows Ror 1 ++ shift_rows Rcl 2 ++ shift_rows Rcr 3
     ++ shift_rows Shl 4 ++ shift_rows Shr 5 ++ shift_rows Sar 7
     ++ bit_rows Bt 0 false ++ bit_rows Bts 1 true ++ bit_rows Btr 2 true ++ bit_rows Btc 3 true
-    ++ moves ++ stack ++ arithmetic ++ strings ++ flags_and_hints ++ transfers
+    ++ moves ++ stack ++ arithmetic ++ strings ++ flags_and_hints ++ system ++ transfers

@@ -1,7 +1,7 @@
 -- The state of the user machine. Intel SDM, volume 1, chapter 3; the answers and calls are this project's own.
-use Rattle.std.specs.Prelude.{◌≡◌, ℕ, ◌^◌, ◌<◌, List, length, slice_index}
+use Rattle.std.specs.Prelude.{◌≡◌, ℕ, ◌^◌, ◌<◌, List, length, slice_index, IfSome}
 use Rattle.mv_base.specs.Memory.{Memory}
-use Rattle.mv_base.specs.Effects.{Answer}
+use Rattle.mv_base.specs.Effects.{Answer, Descs}
 use Rattle.x86_insn.specs.declared.insn.Reg.{Reg}
 use Rattle.x86_insn.specs.declared.insn.Reg.TheVariants.{Eax, Ecx, Edx, Ebx, Esp, Ebp, Esi, Edi}
 pub use Rattle.x86_insn.specs.declared.registers.Core.{Core}
@@ -11,14 +11,18 @@ pub use Rattle.x86_insn.specs.declared.stop.Stop.{Stop}
 pub use Rattle.x86_insn.specs.declared.stop.Stop.TheVariants.{Trap, Outside, NoAnswer, BadAnswer, Gone}
 
 -- a core (the type stands in src/) is what an instruction may change without memory: the eight general registers by
--- their number, and the flags
+-- their number, the flags, and GS, with a base or without one
 pub record IsCore (c : Core) : Type 0 where
   pub eight : length c.regs ≡ 8
   pub fits : (k : ℕ) → slice_index c.regs k < 2 ^ 32
+  pub selector : c.gs < 2 ^ 16
+  pub base : IfSome c.gs_base (λ b. b < 2 ^ 32)
 
--- a state: core, instruction pointer, memory, the answers left, and the calls made, the oldest first
+-- a state: core, the descriptors that GS may be loaded from, instruction pointer, memory, the answers left, and the calls
+-- made, the oldest first
 pub record State : Type 0 where
   pub core : Core
+  pub descs : Descs
   pub eip : ℕ
   pub memory : Memory
   pub answers : List Answer

@@ -1,9 +1,10 @@
 -- One step of the user machine: one whole instruction. Intel SDM, volume 2; stops and answers are this project's own.
 use Rattle.std.specs.Prelude.{ℕ, zero, suc, Bool, true, false, List, [], ◌∷◌, ◌++◌, length, Option, Some, None, slice_index, slice_set}
 use Rattle.mv_base.specs.Memory.{Memory, read_fault, write_fault, bytes_at, put, exec_byte, exec_bytes, address_after}
-use Rattle.mv_base.specs.Effects.{Effect, Answer, Ret, Refusal, Executable, NotMapped, NotWritable, Applied, AllApplied, RefusedAt, apply_all}
+use Rattle.mv_base.specs.Effects.{Effect, Answer, Ret, Refusal, Executable, NotMapped, NotWritable, Applied, AllApplied, RefusedAt, apply_all, Descs, describe_all}
 use Rattle.mv_base.specs.Effects as effects
 use Rattle.x86_insn.specs.declared.insn.Insn.{Insn}
+use Rattle.x86_insn.specs.declared.insn.Insn.TheVariants as insn
 use Rattle.x86_insn.specs.declared.insn.Flow.{Flow}
 use Rattle.x86_insn.specs.declared.insn.Flow.TheVariants as flow
 use Rattle.x86_insn.specs.Flow.{flow_of}
@@ -72,9 +73,9 @@ after_turn (Ended c' m' false) c m again = Completed c' m'
 after_turn (Halted why) c m again = Broken why c m
 
 -- at most n rounds
-unfoldable pub rounds : ℕ → Insn → Core → Memory → Rounds
-rounds zero i c m = Completed c m
-rounds (suc n) i c m = after_turn (turn m (round i c)) c m (rounds n i)
+unfoldable pub rounds : ℕ → Insn → Descs → Core → Memory → Rounds
+rounds zero i ds c m = Completed c m
+rounds (suc n) i ds c m = after_turn (turn m (round i ds c)) c m (rounds n i ds)
 
 abbrev pub after_rounds : State → ℕ → Rounds → Outcome
 after_rounds s next (Completed c m) = Next (record s { core = c; memory = m; eip = next })
@@ -94,21 +95,42 @@ refused Executable = Outside
 refused (NotMapped a) = BadAnswer
 refused (NotWritable a) = BadAnswer
 
-abbrev pub after_effects : State → ℕ → ℕ → List Answer → Applied → Outcome
-after_effects s next eax rest (AllApplied m) =
-    Next (record s { core = record (s.core) { regs = slice_set s.core.regs 0 eax }; eip = next; memory = m; answers = rest; calls = s.calls ++ call_of s.core ∷ [] })
-after_effects s next eax rest (RefusedAt why m) = Stopped (refused why) (record s { memory = m })
+abbrev pub after_effects : State → ℕ → ℕ → List Answer → Descs → Applied → Outcome
+after_effects s next eax rest ds (AllApplied m) =
+    Next (record s { core = record (s.core) { regs = slice_set s.core.regs 0 eax }; descs = ds; eip = next; memory = m; answers = rest; calls = s.calls ++ call_of s.core ∷ [] })
+after_effects s next eax rest ds (RefusedAt why m) = Stopped (refused why) (record s { descs = ds; memory = m })
 
--- a system call takes the next answer
+-- a system call takes the next answer; one that is CPUID's is none for it
 abbrev pub system : State → ℕ → List Answer → Outcome
 system s next [] = Stopped NoAnswer s
 system s next (effects.Gone ∷ rest) = Stopped Gone (record s { answers = rest; calls = s.calls ++ call_of s.core ∷ [] })
-system s next (Ret eax es ∷ rest) = after_effects s next eax rest (apply_all s.memory es)
+system s next (Ret eax es ∷ rest) = after_effects s next eax rest (describe_all s.memory es s.descs) (apply_all s.memory es)
+system s next (effects.Cpuid eax ebx ecx edx ∷ rest) = Stopped BadAnswer s
+
+-- the core with EAX, EBX, ECX and EDX set
+abbrev pub with_words : Core → ℕ → ℕ → ℕ → ℕ → Core
+with_words c eax ebx ecx edx = record c { regs = slice_set (slice_set (slice_set (slice_set c.regs 0 eax) 3 ebx) 1 ecx) 2 edx }
+
+-- CPUID takes the next answer too, and makes no call
+abbrev pub identified : State → ℕ → List Answer → Outcome
+identified s next [] = Stopped NoAnswer s
+identified s next (effects.Gone ∷ rest) = Stopped BadAnswer s
+identified s next (Ret eax es ∷ rest) = Stopped BadAnswer s
+identified s next (effects.Cpuid eax ebx ecx edx ∷ rest) = Next (record s { core = with_words s.core eax ebx ecx edx; eip = next; answers = rest })
+
+abbrev pub is_cpuid : Insn → Bool
+is_cpuid insn.Cpuid = true
+is_cpuid i = false
+
+-- an instruction of flow Plain has rounds, but for CPUID
+abbrev pub plainly : Bool → State → Insn → ℕ → Outcome
+plainly true s i next = identified s next s.answers
+plainly false s i next = after_rounds s next (rounds (limit i s.core) i s.descs s.core s.memory)
 
 -- an instruction of this flow, where next is the address after it
 abbrev pub executed : State → Insn → ℕ → Flow → Outcome
-executed s i next flow.Plain = after_rounds s next (rounds (limit i s.core) i s.core s.memory)
-executed s i next flow.Trap = after_rounds s next (rounds (limit i s.core) i s.core s.memory)
+executed s i next flow.Plain = plainly (is_cpuid i) s i next
+executed s i next flow.Trap = after_rounds s next (rounds (limit i s.core) i s.descs s.core s.memory)
 executed s i next flow.System = system s next s.answers
 executed s i next flow.Jump = after_hop s (turn s.memory (hop next i s.core))
 executed s i next flow.Branch = after_hop s (turn s.memory (hop next i s.core))

@@ -387,6 +387,16 @@ pub enum Insn {
     Ret {
         drop: u16,
     },
+    /// GS gets a selector, and the base of its descriptor.
+    ToGs {
+        src: Rm,
+    },
+    /// The selector of GS.
+    FromGs {
+        width: Width,
+        dst: Rm,
+    },
+    Cpuid,
     Int80,
     Int3,
     Hlt,
@@ -460,7 +470,10 @@ impl Insn {
             | Insn::Flag { .. }
             | Insn::Nop
             | Insn::Pause
-            | Insn::Endbr => Flow::Plain,
+            | Insn::Endbr
+            | Insn::ToGs { .. }
+            | Insn::FromGs { .. }
+            | Insn::Cpuid => Flow::Plain,
         }
     }
 }
