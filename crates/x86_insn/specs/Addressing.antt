@@ -103,7 +103,13 @@ memory_of s = record {
   base = if has_base s then Some (reg_of (base_number s)) else None;
   index = if has_index s then Some (reg_of (index_field s), factor_of (scale_field s)) else None;
   disp = displacement_of s (displacement_length s);
+  gs = false;
 }
 
 abbrev pub rm_of : List ℕ → Rm
 rm_of s = if names_memory s then M (memory_of s) else R (reg_of (rm_field s))
+
+-- memory relative to GS, or not
+abbrev pub with_gs : Bool → Rm → Rm
+with_gs gs (R r) = R r
+with_gs gs (M m) = M (record m { gs = gs })

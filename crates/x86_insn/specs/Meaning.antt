@@ -1,5 +1,5 @@
 -- What each kind of row spells, of the operands that the bytes name. Intel SDM, volume 2.
-use Rattle.std.specs.Prelude.{ℕ, zero, suc, ◌%◌, ◌^◌, false, Some, None}
+use Rattle.std.specs.Prelude.{ℕ, zero, suc, ◌%◌, ◌^◌, Bool, false, Some, None}
 use Rattle.x86_insn.specs.declared.insn.Insn.{Insn}
 use Rattle.x86_insn.specs.declared.insn.Insn.TheVariants as insn
 use Rattle.x86_insn.specs.declared.insn.Reg.TheVariants.{Eax}
@@ -61,13 +61,13 @@ abbrev pub source_of : Rm → Src
 source_of (rm.R r) = src.R r
 source_of (rm.M m) = src.M m
 
--- memory at an address, without registers
-abbrev pub at_address : ℕ → Mem
-at_address a = record { base = None; index = None; disp = a }
+-- memory at an address, without registers, relative to GS or not
+abbrev pub at_address : Bool → ℕ → Mem
+at_address gs a = record { base = None; index = None; disp = a; gs = gs }
 
 -- the memory of an operand; a register has none, and no row that asks for it may have one
 abbrev pub memory_in : Rm → Mem
-memory_in (rm.R r) = at_address 0
+memory_in (rm.R r) = at_address false 0
 memory_in (rm.M m) = m
 
 -- a selector has two bytes in memory
@@ -87,8 +87,8 @@ meaning kind.MovRmReg o = insn.Mov o.width o.rm (src.R o.reg)
 meaning kind.MovRegRm o = insn.Mov o.width (rm.R o.reg) (source_of o.rm)
 meaning kind.MovRegImm o = insn.Mov o.width (rm.R (reg_of (o.opcode % 8))) (src.Imm o.immediate)
 meaning kind.MovRmImm o = insn.Mov o.width o.rm (src.Imm o.immediate)
-meaning kind.MovAccAt o = insn.Mov o.width (rm.R Eax) (src.M (at_address o.immediate))
-meaning kind.MovAtAcc o = insn.Mov o.width (rm.M (at_address o.immediate)) (src.R Eax)
+meaning kind.MovAccAt o = insn.Mov o.width (rm.R Eax) (src.M (at_address o.marks.gs o.immediate))
+meaning kind.MovAtAcc o = insn.Mov o.width (rm.M (at_address o.marks.gs o.immediate)) (src.R Eax)
 meaning kind.XchgRmReg o = insn.Xchg o.width o.marks.lock o.rm o.reg
 meaning kind.XchgRegAcc o = insn.Xchg o.width false (rm.R (reg_of (o.opcode % 8))) Eax
 meaning kind.Lea o = insn.Lea o.width o.reg (memory_in o.rm)

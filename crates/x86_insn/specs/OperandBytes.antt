@@ -12,8 +12,8 @@ use Rattle.x86_insn.specs.declared.row.Immediate.TheVariants.{Absent, Ib, Signed
 use Rattle.x86_insn.specs.declared.row.Form.{Form}
 use Rattle.x86_insn.specs.declared.row.Marks.{Marks}
 use Rattle.x86_insn.specs.declared.row.Operands.{Operands}
-use Rattle.x86_insn.specs.Addressing.{byte_at, dword_at, sign_extended, reg_of, mod_field, reg_field, rm_field, base_field, names_memory, has_sib, base_number, has_base, displacement_place, displacement_bytes, displacement_of, displacement_length, address_length, factor_of, memory_of, rm_of}
-use Rattle.x86_insn.specs.Spelling.{has_modrm, takes_digit, takes_operand, immediate_length, signed_byte, half_number, immediate_of, immediate_place, addressed, from_modrm, form_width, operand_length, takes_modrm, operands_of}
+use Rattle.x86_insn.specs.Addressing.{byte_at, dword_at, sign_extended, reg_of, mod_field, reg_field, rm_field, base_field, names_memory, has_sib, base_number, has_base, displacement_place, displacement_bytes, displacement_of, displacement_length, address_length, factor_of, memory_of, rm_of, with_gs}
+use Rattle.x86_insn.specs.Spelling.{has_modrm, takes_digit, takes_operand, immediate_length, signed_byte, half_number, immediate_of, immediate_place, addressed, from_modrm, form_width, operand_length, asks_memory, takes_modrm, operands_of}
 
 -- the same bytes stand in both below a place
 abbrev pub Same : ℕ → List ℕ → List ℕ → Type 0
@@ -118,7 +118,7 @@ displacement_same s t n p three e f h =
       ]
     ]
 
-mem_same : (b b' : Option Reg) (x x' : Option (Reg × ℕ)) (d d' : ℕ) → b ≡ b' → x ≡ x' → d ≡ d' → ◌≡◌ {A = Mem} (record { base = b; index = x; disp = d }) (record { base = b'; index = x'; disp = d' })
+mem_same : (b b' : Option Reg) (x x' : Option (Reg × ℕ)) (d d' : ℕ) → b ≡ b' → x ≡ x' → d ≡ d' → ◌≡◌ {A = Mem} (record { base = b; index = x; disp = d; gs = false }) (record { base = b'; index = x'; disp = d'; gs = false })
 mem_same b b' x x' d d' p q e = cc
 
 -- the bytes of an address say all
@@ -154,7 +154,7 @@ pub record SameOperands (r : Form) (m : Marks) (opcode : ℕ) (s t : List ℕ) :
   pub operands : operands_of r m opcode s ≡ operands_of r m opcode t
 
 abbrev takes_by : Form → Marks → ℕ → Bool → Bool
-takes_by r m n v = takes_digit r.digit n && takes_operand r.layout v && (not m.lock || v)
+takes_by r m n v = takes_digit r.digit n && takes_operand r.layout v && (not (asks_memory m) || v)
 
 immediate_at : (r : Form) (m : Marks) (s t : List ℕ) (p : ℕ) → Same (p + immediate_length r.immediate (form_width r m)) s t → immediate_of r.immediate (form_width r m) s p ≡ immediate_of r.immediate (form_width r m) t p
 immediate_at r m s t p h = immediate_same r.immediate (form_width r m) s t p h
@@ -170,10 +170,11 @@ same_operands r m opcode s t h = go (has_modrm r.layout) refl
         let imm : (operands_of r m opcode s).immediate ≡ (operands_of r m opcode t).immediate =
         immediate_at r m s t (immediate_place (has_modrm r.layout) s) h ∙ ap (immediate_of r.immediate (form_width r m) t) place in
         let regs : reg_of (reg_field (from_modrm r s)) ≡ reg_of (reg_field (from_modrm r t)) = ap reg_of reg in
+        let rms = ap (with_gs m.gs) rm in
         record {
           length = ap (λ (k : ℕ). k + immediate_length r.immediate (form_width r m)) place;
           modrm = ap₂ (takes_by r m) reg names;
-          operands = operands_same _ _ _ _ _ _ _ _ _ regs rm imm;
+          operands = operands_same _ _ _ _ _ _ _ _ _ regs rms imm;
         }
 
     go : (v : Bool) → has_modrm r.layout ≡ v → SameOperands r m opcode s t

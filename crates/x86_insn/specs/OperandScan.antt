@@ -9,7 +9,7 @@ use Rattle.x86_insn.specs.declared.row.Form.{Form}
 use Rattle.x86_insn.specs.declared.row.Marks.{Marks}
 use Rattle.x86_insn.specs.Addressing.{byte_at, reg_field, rm_field, base_field, base_number, names_memory, has_sib, has_base, mod_field, displacement_place, displacement_bytes, address_length}
 use Rattle.x86_insn.specs.Meaning.{meaning}
-use Rattle.x86_insn.specs.Spelling.{has_modrm, takes_digit, takes_operand, immediate_length, immediate_place, addressed, from_modrm, form_width, operand_length, takes_marks, takes_modrm, operands_of, spelled_operands}
+use Rattle.x86_insn.specs.Spelling.{has_modrm, takes_digit, takes_operand, immediate_length, immediate_place, addressed, from_modrm, form_width, operand_length, takes_marks, asks_memory, takes_modrm, operands_of, spelled_operands}
 use Rattle.x86_insn.specs.Scanning.{Scan, Found, More, Nothing, mod_of, digit_of, sized, scan_operands, Agree, IsScan}
 use Rattle.x86_insn.specs.Agreeing.{chosen, both_true, and_true, true_not_false, agree_byte, agree_swap, byte_of_take, byte_of_padded, zeros_are_bytes, padded_length, are_bytes_cons}
 use Rattle.x86_insn.specs.OperandBytes.{address_above, same_length, same_operands}
@@ -128,8 +128,8 @@ more_size r m opcode s x b j w a =
       | inr h ↦ let e = same_size r m opcode s (x ∷ b) j w a h in omega (arith, e)
     ]
 
-takes_by : (r : Form) (m : Marks) (a b : ℕ) (v w : Bool) → a ≡ b → v ≡ w → (takes_digit r.digit a && takes_operand r.layout v && (not m.lock || v)) ≡ (takes_digit r.digit b && takes_operand r.layout w && (not m.lock || w))
-takes_by r m a b v w e f = ap₂ (λ (x : ℕ) (y : Bool). takes_digit r.digit x && takes_operand r.layout y && (not m.lock || y)) e f
+takes_by : (r : Form) (m : Marks) (a b : ℕ) (v w : Bool) → a ≡ b → v ≡ w → (takes_digit r.digit a && takes_operand r.layout v && (not (asks_memory m) || v)) ≡ (takes_digit r.digit b && takes_operand r.layout w && (not (asks_memory m) || w))
+takes_by r m a b v w e f = ap₂ (λ (x : ℕ) (y : Bool). takes_digit r.digit x && takes_operand r.layout y && (not (asks_memory m) || y)) e f
 
 -- what ModRM says is the first byte's
 takes_first : (r : Form) (m : Marks) (x : ℕ) (b : List ℕ) (s : List ℕ) → Agree s (x ∷ b) → length s ≡ operand_length r m s → takes_modrm r m s ≡ takes_modrm r m (x ∷ b)
@@ -216,7 +216,7 @@ seed_takes r m s e h t =
     let f : from_modrm r (seed r.layout r.digit) ≡ seed r.layout r.digit = ap (λ (v : Bool). addressed v (seed r.layout r.digit)) e in
     let w = both_true (takes_digit r.digit (reg_field (from_modrm r s)) && takes_operand r.layout (names_memory (from_modrm r s))) _ t in
     let v = both_true (takes_digit r.digit (reg_field (from_modrm r s))) _ w.0 in
-    let o = seed_operand r.layout r.digit m.lock (names_memory (from_modrm r s)) h v.1 w.1 in
+    let o = seed_operand r.layout r.digit (asks_memory m) (names_memory (from_modrm r s)) h v.1 w.1 in
     let here = and_true _ _ (and_true _ _ (seed_digit r.layout r.digit h) o.0) o.1 in
     takes_by r m _ _ _ _ (ap reg_field f) (ap names_memory f) ∙ here
 

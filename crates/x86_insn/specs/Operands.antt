@@ -1,5 +1,5 @@
 -- Registers by width, and effective addresses. Intel SDM, volume 1, sections 3.4.1 and 3.7; volume 2, section 2.1.
-use Rattle.std.specs.Prelude.{ℕ, ◌+◌, ◌-◌, ◌*◌, ◌/◌, ◌%◌, ◌^◌, nat_lt, Option, Some, None, List, slice_index, slice_set, if◌then◌else◌}
+use Rattle.std.specs.Prelude.{ℕ, ◌+◌, ◌-◌, ◌*◌, ◌/◌, ◌%◌, ◌^◌, nat_lt, Bool, true, false, not, ◌&&◌, Option, Some, None, is_some, List, slice_index, slice_set, if◌then◌else◌}
 use Rattle.byteorder.specs.Endian.{little_bytes}
 use Rattle.x86_insn.specs.declared.flags.Flags.{Flags}
 use Rattle.x86_insn.specs.declared.insn.Mem.{Mem}
@@ -75,9 +75,22 @@ abbrev pub index_part : Core → Option (Reg × ℕ) → ℕ
 index_part c None = 0
 index_part c (Some p) = reg c p.0 * p.1
 
+-- GS's base, where the operand is relative to it
+abbrev pub base_or_zero : Option ℕ → ℕ
+base_or_zero None = 0
+base_or_zero (Some base) = base
+
+abbrev pub segment_part : Core → Bool → ℕ
+segment_part c false = 0
+segment_part c true = base_or_zero c.gs_base
+
 -- base, index times its factor, and displacement, modulo 2^32
 abbrev pub effective_address : Core → Mem → ℕ
-effective_address c m = (base_part c m.base + index_part c m.index + m.disp) % 2 ^ 32
+effective_address c m = (segment_part c m.gs + base_part c m.base + index_part c m.index + m.disp) % 2 ^ 32
+
+-- an operand that is relative to GS can't be reached where GS has no base
+abbrev pub is_beyond : Core → Mem → Bool
+is_beyond c m = m.gs && not (is_some c.gs_base)
 
 -- ---- values
 

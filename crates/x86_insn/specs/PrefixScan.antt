@@ -1,20 +1,24 @@
 -- The scan of whole instructions is right: prefixes are told from opcodes by their bytes, and more prefixes never make
 -- what is missing shorter.
-use Rattle.std.specs.Prelude.{◌≡◌, ℕ, ◌+◌, ◌≤◌, Bool, true, false, ◌&&◌, ◌||◌, ◌⊎◌, List, [], ◌∷◌, ◌++◌, length, take, count_by, cond, Option, Some, None, refl, nat_eq, nat_le, nat_lt}
+use Rattle.std.specs.Prelude.{◌≡◌, ℕ, ◌+◌, ◌≤◌, Bool, true, false, not, ◌&&◌, ◌||◌, ◌⊎◌, List, [], ◌∷◌, ◌++◌, length, take, count_by, cond, Option, Some, None, refl, nat_eq, nat_le, nat_lt}
 use Rattle.std.proofs.Common.{sym, ◌∙◌, ap, ap₂, subst, inl, inr, arith, append-nil, append_assoc}
 use Rattle.std.proofs.lemmas.Bool.{leb-true, le-leb, eqb-true}
 use Rattle.std.proofs.lemmas.List.{length-append}
 use Rattle.std.proofs.Math.Seq.{take-append-add}
 use Rattle.std.proofs.lemmas.List.Sums.{sum_by-cons}
 use Rattle.x86_insn.specs.declared.insn.Insn.{Insn}
+use Rattle.x86_insn.specs.declared.insn.Rep.{Rep}
+use Rattle.x86_insn.specs.declared.insn.Rep.TheVariants as rep
+use Rattle.x86_insn.specs.declared.row.Form.{Form}
 use Rattle.x86_insn.specs.declared.row.Row.{Row}
 use Rattle.x86_insn.specs.declared.row.Marks.{Marks}
 use Rattle.x86_insn.specs.Prefixes.{is_among, is_prefix, are_prefixes, at_most_one, may_stand_together, marks_of, rep_of, segments, locks_and_repeats}
 use Rattle.x86_insn.specs.Rows.{rows}
-use Rattle.x86_insn.specs.Spelling.{front, body, spelled_rows}
+use Rattle.x86_insn.specs.Spelling.{front, body, spelled_row, spelled_rows, takes_word, takes_repeat, takes_gs}
 use Rattle.x86_insn.specs.Scanning.{Scan, Found, More, Nothing, later, scan_rows, scan, Agree, IsScan}
 use Rattle.x86_insn.specs.Agreeing.{chosen, both_true, and_true, true_not_false, or_cases}
 use Rattle.x86_insn.specs.Scanned.{Speller, agree_nil}
+use Rattle.x86_insn.specs.OperandScan.{fits_of}
 use Rattle.x86_insn.specs.RowScan.{pattern, Begins, row_parts, rows_scan}
 
 -- what all of a list spells, without the limit of 15 bytes
@@ -222,30 +226,103 @@ together_more ps more h =
 
 -- ---- what prefixes alone lack
 
-abbrev Lacks : Marks → Type 0
-Lacks m = (n : ℕ) × (scan_rows rows m [] ≡ More n) × (n ≤ 2)
+abbrev is_repeated : Rep → Bool
+is_repeated rep.Once = false
+is_repeated rep.F3 = true
+is_repeated rep.F2 = true
 
-lacks : (word lock f3 f2 : Bool) → nat_le (0 + cond lock 1 0 + cond f2 1 0 + cond f3 1 0) 1 ≡ true → Lacks (record { word = word; lock = lock; rep = rep_of f3 f2 })
+-- no row takes 65 with a repeat prefix
+abbrev pub one_of_both : Form → Bool
+one_of_both f = not (takes_gs f) || not (takes_repeat f.repeat rep.F3 || takes_repeat f.repeat rep.F2)
+
+abbrev pub all_one_of_both : List Row → Bool
+all_one_of_both [] = true
+all_one_of_both (r ∷ rs) = one_of_both r.form && all_one_of_both rs
+
+table_one_of_both : all_one_of_both rows ≡ true
 unfolding rows
-lacks true true true true h = absurd (cc h)
-lacks true true true false h = absurd (cc h)
-lacks false true true true h = absurd (cc h)
-lacks false true true false h = absurd (cc h)
-lacks true true false true h = absurd (cc h)
-lacks false true false true h = absurd (cc h)
-lacks true true false false h = (2, refl, omega arith)
-lacks false true false false h = (2, refl, omega arith)
-lacks true false true true h = absurd (cc h)
-lacks false false true true h = absurd (cc h)
-lacks true false true false h = (1, refl, omega arith)
-lacks false false true false h = (1, refl, omega arith)
-lacks true false false true h = (1, refl, omega arith)
-lacks false false false true h = (1, refl, omega arith)
-lacks true false false false h = (1, refl, omega arith)
-lacks false false false false h = (1, refl, omega arith)
+table_one_of_both = refl
+
+never_both : (f : Form) (p : Rep) → one_of_both f ≡ true → takes_gs f ≡ true → is_repeated p ≡ true → takes_repeat f.repeat p ≡ true → ⊥
+never_both f rep.Once h g r t = absurd (cc r)
+never_both f rep.F3 h g r t = by_tests (takes_gs f) (takes_repeat f.repeat rep.F3) (takes_repeat f.repeat rep.F2) h g t
+  where
+    by_tests : (x y z : Bool) → (not x || not (y || z)) ≡ true → x ≡ true → y ≡ true → ⊥
+    by_tests true true z e u v = absurd (cc e)
+    by_tests true false z e u v = absurd (cc v)
+    by_tests false y z e u v = absurd (cc u)
+never_both f rep.F2 h g r t = by_tests (takes_gs f) (takes_repeat f.repeat rep.F3) (takes_repeat f.repeat rep.F2) h g t
+  where
+    by_tests : (x y z : Bool) → (not x || not (y || z)) ≡ true → x ≡ true → z ≡ true → ⊥
+    by_tests true true true e u v = absurd (cc e)
+    by_tests true false true e u v = absurd (cc e)
+    by_tests true y false e u v = absurd (cc v)
+    by_tests false y z e u v = absurd (cc u)
+
+row_never_both : (r : Row) (m : Marks) (s : List ℕ) (j : Insn) → one_of_both r.form ≡ true → m.gs ≡ true → is_repeated m.rep ≡ true → spelled_row r m s ≡ Some j → ⊥
+row_never_both r m s j h g p e =
+    let w = row_parts r m s j e in
+    let f = fits_of r.form m w.opcode w.operands j w.spells in
+    let v = both_true ((not m.word || takes_word r.form.size) && takes_repeat r.form.repeat m.rep && (not m.lock || r.form.lock)) _ f.marks in
+    let u = both_true ((not m.word || takes_word r.form.size) && takes_repeat r.form.repeat m.rep) _ v.0 in
+    let repeats = (both_true (not m.word || takes_word r.form.size) _ u.0).1 in
+    let takes : takes_gs r.form ≡ true = ap (λ (x : Bool). not x || takes_gs r.form) (sym g) ∙ v.1 in
+    never_both r.form m.rep h takes p repeats
+
+rows_never_both : (rs : List Row) (m : Marks) (s : List ℕ) (j : Insn) → all_one_of_both rs ≡ true → m.gs ≡ true → is_repeated m.rep ≡ true → spelled_rows rs m s ≡ Some j → ⊥
+rows_never_both [] m s j h g p e = absurd (cc e)
+rows_never_both (r ∷ rs) m s j h g p e =
+    let w = both_true (one_of_both r.form) (all_one_of_both rs) h in
+    elim (or_cases _ _ j e) [
+      | inl f ↦ row_never_both r m s j w.0 g p f
+      | inr f ↦ rows_never_both rs m s j w.1 g p f
+    ]
+
+-- a repeat prefix among more prefixes
+repeated_more : (ps more : List ℕ) → is_repeated (marks_of ps).rep ≡ true → is_repeated (marks_of (ps ++ more)).rep ≡ true
+repeated_more ps more h = go (is_among ps 0xF3) refl (is_among ps 0xF2) refl h
+  where
+    second : (x : Bool) → is_repeated (rep_of x true) ≡ true
+    second true = refl
+    second false = refl
+
+    go : (x : Bool) → is_among ps 0xF3 ≡ x → (y : Bool) → is_among ps 0xF2 ≡ y → is_repeated (rep_of x y) ≡ true → is_repeated (marks_of (ps ++ more)).rep ≡ true
+    go true p y q r = ap (λ (x : Bool). is_repeated (rep_of x (is_among (ps ++ more) 0xF2))) (among_more ps more 0xF3 p)
+    go false p true q r = ap (λ (x : Bool). is_repeated (rep_of (is_among (ps ++ more) 0xF3) x)) (among_more ps more 0xF2 q) ∙ second (is_among (ps ++ more) 0xF3)
+    go false p false q r = absurd (cc r)
+
+-- prefixes lack a byte or two, or no row takes them
+abbrev LacksFew : Marks → Type 0
+LacksFew m = (n : ℕ) × (scan_rows rows m [] ≡ More n) × (n ≤ 2)
+
+abbrev Lacks : Marks → Type 0
+Lacks m = LacksFew m ⊎ ((scan_rows rows m [] ≡ Nothing) × (m.gs ≡ true) × (is_repeated m.rep ≡ true))
+
+lacks : (word gs lock f3 f2 : Bool) → nat_le (0 + cond lock 1 0 + cond f2 1 0 + cond f3 1 0) 1 ≡ true → Lacks (record { word = word; lock = lock; rep = rep_of f3 f2; gs = gs })
+unfolding rows
+lacks word gs true true true h = absurd (cc h)
+lacks word gs true true false h = absurd (cc h)
+lacks word gs false true true h = absurd (cc h)
+lacks word gs true false true h = absurd (cc h)
+lacks true true true false false h = inl (2, refl, omega arith)
+lacks true false true false false h = inl (2, refl, omega arith)
+lacks false true true false false h = inl (2, refl, omega arith)
+lacks false false true false false h = inl (2, refl, omega arith)
+lacks true true false true false h = inr (refl, refl, refl)
+lacks true false false true false h = inl (1, refl, omega arith)
+lacks false true false true false h = inr (refl, refl, refl)
+lacks false false false true false h = inl (1, refl, omega arith)
+lacks true true false false true h = inr (refl, refl, refl)
+lacks true false false false true h = inl (1, refl, omega arith)
+lacks false true false false true h = inr (refl, refl, refl)
+lacks false false false false true h = inl (1, refl, omega arith)
+lacks true true false false false h = inl (2, refl, omega arith)
+lacks true false false false false h = inl (1, refl, omega arith)
+lacks false true false false false h = inl (2, refl, omega arith)
+lacks false false false false false h = inl (1, refl, omega arith)
 
 prefixes_lack : (b : List ℕ) → may_stand_together b ≡ true → Lacks (marks_of b)
-prefixes_lack b h = lacks (is_among b 0x66) (is_among b 0xF0) (is_among b 0xF3) (is_among b 0xF2) (both_true (at_most_one segments b) _ h).1
+prefixes_lack b h = lacks (is_among b 0x66) (is_among b 0x65) (is_among b 0xF0) (is_among b 0xF3) (is_among b 0xF2) (both_true (at_most_one segments b) _ h).1
 
 -- ---- the whole
 
@@ -295,11 +372,15 @@ with_opcode b x u e r t h = by_scan r h
 -- the bytes are prefixes alone
 prefixes_only : (b : List ℕ) → body b ≡ [] → may_stand_together (front b) ≡ true → IsScan unlimited b (later (length (front b)) (scan_rows rows (marks_of (front b)) (body b)))
 prefixes_only b e t =
-    let m = marks_of (front b) in
-    let lack = prefixes_lack (front b) t in
-    let is_more : scan_rows rows m (body b) ≡ More lack.0 = ap (scan_rows rows m) e ∙ lack.1 in
-    let right : IsScan (spelled_rows rows m) (body b) (More lack.0) = subst (IsScan (spelled_rows rows m) (body b)) is_more (rows_scan m (body b)) in
-    subst (λ (r : Scan). IsScan unlimited b (later (length (front b)) r)) (sym is_more) (by_more lack.0 lack.2 right)
+    elim (prefixes_lack (front b) t) [
+      | inl few ↦
+          let is_more : scan_rows rows (marks_of (front b)) (body b) ≡ More few.0 = ap (scan_rows rows (marks_of (front b))) e ∙ few.1 in
+          let right : IsScan (spelled_rows rows (marks_of (front b))) (body b) (More few.0) = subst (IsScan (spelled_rows rows (marks_of (front b))) (body b)) is_more (rows_scan (marks_of (front b)) (body b)) in
+          subst (λ (r : Scan). IsScan unlimited b (later (length (front b)) r)) (sym is_more) (by_more few.0 few.2 right)
+      | inr none ↦
+          let is_none : scan_rows rows (marks_of (front b)) (body b) ≡ Nothing = ap (scan_rows rows (marks_of (front b))) e ∙ none.0 in
+          subst (λ (r : Scan). IsScan unlimited b (later (length (front b)) r)) (sym is_none) (by_none none.1 none.2)
+    ]
   where
     by_more : (n : ℕ) → n ≤ 2 → IsScan (spelled_rows rows (marks_of (front b))) (body b) (More n) → IsScan unlimited b (More (length (front b) + n))
     by_more n two k =
@@ -324,6 +405,14 @@ prefixes_only b e t =
             let v = unlimited_parts s j p in
             let m = more_prefixes s b v.head.byte v.head.rest v.head.parts e a in
             by_rest s j v m.0 m.1
+
+    by_none : (marks_of (front b)).gs ≡ true → is_repeated (marks_of (front b)).rep ≡ true → IsScan unlimited b Nothing
+    by_none g p = λ s j k a.
+        let v = unlimited_parts s j k in
+        let m = more_prefixes s b v.head.byte v.head.rest v.head.parts e a in
+        let f : front s ≡ front b ++ m.0 = m.1 ∙ ap (λ (u : List ℕ). u ++ m.0) (sym (prefixes_alone b e)) in
+        let spells : spelled_rows rows (marks_of (front b ++ m.0)) (body s) ≡ Some j = ap (λ (q : List ℕ). spelled_rows rows (marks_of q) (body s)) (sym f) ∙ v.spells in
+        rows_never_both rows (marks_of (front b ++ m.0)) (body s) j table_one_of_both (among_more (front b) m.0 0x65 g) (repeated_more (front b) m.0 p) spells
 
 no_together : (b : List ℕ) → may_stand_together (front b) ≡ false → IsScan unlimited b Nothing
 no_together b t = λ s j p a. by_body (body b) refl s j (unlimited_parts s j p) a

@@ -5,9 +5,9 @@ use Rattle.x86_insn.specs.declared.insn.Rep.{Rep}
 use Rattle.x86_insn.specs.declared.insn.Rep.TheVariants.{Once, F3, F2}
 use Rattle.x86_insn.specs.declared.row.Marks.{Marks}
 
--- the segment prefixes that may stand: ES, CS, SS and DS
+-- the segment prefixes that may stand: ES, CS, SS, DS and GS
 abbrev pub segments : List ℕ
-segments = 0x26 ∷ 0x2E ∷ 0x36 ∷ 0x3E ∷ []
+segments = 0x26 ∷ 0x2E ∷ 0x36 ∷ 0x3E ∷ 0x65 ∷ []
 
 -- the lock prefix and the repeat prefixes
 abbrev pub locks_and_repeats : List ℕ
@@ -39,6 +39,6 @@ rep_of true f2 = F3
 rep_of false true = F2
 rep_of false false = Once
 
--- what prefixes set; those of the segments set nothing
+-- what prefixes set; those of the segments set nothing, but for GS
 abbrev pub marks_of : List ℕ → Marks
-marks_of prefixes = record { word = is_among prefixes 0x66; lock = is_among prefixes 0xF0; rep = rep_of (is_among prefixes 0xF3) (is_among prefixes 0xF2) }
+marks_of prefixes = record { word = is_among prefixes 0x66; lock = is_among prefixes 0xF0; rep = rep_of (is_among prefixes 0xF3) (is_among prefixes 0xF2); gs = is_among prefixes 0x65 }

@@ -185,7 +185,7 @@ operand_parts r m o s j e =
     let c = chosen (takes_marks r m && takes_modrm r m s && (length s == operand_length r m s)) (Some (meaning r.kind (operands_of r m o s))) j e in
     let w = both_true (takes_marks r m && takes_modrm r m s) _ c.0 in
     let v = both_true (takes_marks r m) _ w.0 in
-    let marks = both_true ((not m.word || takes_word r.size) && takes_repeat r.repeat m.rep) _ v.0 in
+    let marks = both_true ((not m.word || takes_word r.size) && takes_repeat r.repeat m.rep) _ (both_true ((not m.word || takes_word r.size) && takes_repeat r.repeat m.rep && (not m.lock || r.lock)) _ v.0).0 in
     let modrm = both_true (takes_digit r.digit (reg_field (from_modrm r s)) && takes_operand r.layout (names_memory (from_modrm r s))) _ v.1 in
     record {
       rep = (both_true (not m.word || takes_word r.size) _ marks.0).1;

@@ -17,11 +17,13 @@ use Rattle.x86_insn.specs.declared.row.Size.{Size}
 use Rattle.x86_insn.specs.declared.row.Size.TheVariants.{Byte, Vary, Dword}
 use Rattle.x86_insn.specs.declared.row.Repeat.{Repeat}
 use Rattle.x86_insn.specs.declared.row.Repeat.TheVariants.{Never, Idle, Needed, Rep as Repeats, Repe}
+use Rattle.x86_insn.specs.declared.row.Kind.{Kind}
+use Rattle.x86_insn.specs.declared.row.Kind.TheVariants.{Lea, Nop, MovAccAt, MovAtAcc}
 use Rattle.x86_insn.specs.declared.row.Form.{Form}
 use Rattle.x86_insn.specs.declared.row.Row.{Row}
 use Rattle.x86_insn.specs.declared.row.Marks.{Marks}
 use Rattle.x86_insn.specs.declared.row.Operands.{Operands}
-use Rattle.x86_insn.specs.Addressing.{byte_at, dword_at, sign_extended, reg_of, reg_field, names_memory, address_length, rm_of}
+use Rattle.x86_insn.specs.Addressing.{byte_at, dword_at, sign_extended, reg_of, reg_field, names_memory, address_length, rm_of, with_gs}
 use Rattle.x86_insn.specs.Prefixes.{is_prefix, are_prefixes, may_stand_together, marks_of}
 use Rattle.x86_insn.specs.Meaning.{meaning}
 use Rattle.x86_insn.specs.Rows.{rows}
@@ -134,14 +136,29 @@ form_width f m = width_of f.size m.word
 abbrev pub operand_length : Form → Marks → List ℕ → ℕ
 operand_length f m s = immediate_place (has_modrm f.layout) s + immediate_length f.immediate (form_width f m)
 
+-- 65 may stand before an operand of ModRM that is accessed, and before one at an immediate
+abbrev pub kind_takes_gs : Kind → Layout → Bool
+kind_takes_gs Lea layout = false
+kind_takes_gs Nop layout = false
+kind_takes_gs MovAccAt layout = true
+kind_takes_gs MovAtAcc layout = true
+kind_takes_gs kind layout = has_modrm layout
+
+abbrev pub takes_gs : Form → Bool
+takes_gs f = kind_takes_gs f.kind f.layout
+
 -- the prefixes may stand before it
 abbrev pub takes_marks : Form → Marks → Bool
-takes_marks f m = (not m.word || takes_word f.size) && takes_repeat f.repeat m.rep && (not m.lock || f.lock)
+takes_marks f m = (not m.word || takes_word f.size) && takes_repeat f.repeat m.rep && (not m.lock || f.lock) && (not m.gs || takes_gs f)
 
--- ModRM is one of the form's; F0 asks for memory
+-- F0 and 65 ask for memory
+abbrev pub asks_memory : Marks → Bool
+asks_memory m = m.lock || m.gs
+
+-- ModRM is one of the form's
 abbrev pub takes_modrm : Form → Marks → List ℕ → Bool
 takes_modrm f m s =
-    takes_digit f.digit (reg_field (from_modrm f s)) && takes_operand f.layout (names_memory (from_modrm f s)) && (not m.lock || names_memory (from_modrm f s))
+    takes_digit f.digit (reg_field (from_modrm f s)) && takes_operand f.layout (names_memory (from_modrm f s)) && (not (asks_memory m) || names_memory (from_modrm f s))
 
 abbrev pub operands_of : Form → Marks → ℕ → List ℕ → Operands
 operands_of f m opcode s = record {
@@ -149,7 +166,7 @@ operands_of f m opcode s = record {
   marks = m;
   opcode = opcode;
   reg = reg_of (reg_field (from_modrm f s));
-  rm = rm_of (from_modrm f s);
+  rm = with_gs m.gs (rm_of (from_modrm f s));
   immediate = immediate_of f.immediate (form_width f m) s (immediate_place (has_modrm f.layout) s);
 }
 

@@ -231,7 +231,7 @@ pub struct Form {
 
 impl Form {
     ghost use Rattle.std.specs.Prelude.{◌≡◌};
-    ghost use Rattle.x86_insn.specs.Spelling.{takes_marks};
+    ghost use Rattle.x86_insn.specs.Spelling.{takes_gs, takes_marks};
 
     /// Whether prefixes that set these marks may stand before it.
     pub fn takes_marks(&self, marks: Marks) -> bool
@@ -240,6 +240,18 @@ impl Form {
         (!marks.word || self.size.takes_word())
             && self.repeat.takes(marks.rep)
             && (!marks.lock || self.lock)
+            && (!marks.gs || self.takes_gs())
+    }
+
+    /// Whether the prefix 65 may stand, where the operand is memory: before an operand that is accessed.
+    pub fn takes_gs(&self) -> bool
+        ensures { result ≡ takes_gs self.now }
+    {
+        match self.kind {
+            Kind::Lea | Kind::Nop => false,
+            Kind::MovAccAt | Kind::MovAtAcc => true,
+            _ => self.layout.has_modrm(),
+        }
     }
 }
 
@@ -263,6 +275,8 @@ pub struct Marks {
     pub lock: bool,
     /// Whether F3 or F2 stands.
     pub rep: Rep,
+    /// 65 stands.
+    pub gs: bool,
 }
 
 /// The operands that an instruction's bytes name, for any kind of row.
