@@ -1,6 +1,6 @@
 -- That a symbolic step is one line: the code `pop dword [p+4]`, and then a near jump, takes a word from the stack to the
 -- second private word and goes where it says, in two steps.
-use Rattle.std.proofs.Common.{◌≡◌, ℕ, ◌+◌, ◌^◌, ◌<◌, [], ◌∷◌, None, true, ◌&&◌, refl, sym, ap, ◌∙◌, arith}
+use Rattle.std.proofs.Common.{◌≡◌, ℕ, ◌+◌, ◌^◌, ◌<◌, [], ◌∷◌, None, true, false, ◌&&◌, refl, sym, ap, ◌∙◌, arith}
 use Rattle.mv_base.specs.Bytes.{word}
 use Rattle.mv_base.specs.Memory.{address_after}
 use Rattle.x86_insn.specs.declared.insn.Insn.TheVariants.{Pop}
@@ -16,9 +16,9 @@ use Rattle.step_laws.specs.laws.Spelled.{Spelled, with_number}
 use Rattle.step_laws.specs.laws.NearJump.{reach, jump_spelled, jump_goes}
 use Rattle.step_laws.specs.laws.Symbolic.{Setting, Code, Comes, Word, on, absolute, code_low, pop_to, jump, done}
 
-pop_spelled : (n : ℕ) → n < 2 ^ 32 → Spelled (0x8F ∷ 0x05 ∷ word n) (Pop (rm.M (record { base = None; index = None; disp = n })))
+pop_spelled : (n : ℕ) → n < 2 ^ 32 → Spelled (0x8F ∷ 0x05 ∷ word n) (Pop (rm.M (record { base = None; index = None; disp = n; gs = false })))
 unfolding rows
-pop_spelled n low = with_number (0x8F ∷ 0x05 ∷ []) (λ k. Pop (rm.M (record { base = None; index = None; disp = k }))) (λ a b c d. refl) (omega arith) refl n low
+pop_spelled n low = with_number (0x8F ∷ 0x05 ∷ []) (λ k. Pop (rm.M (record { base = None; index = None; disp = k; gs = false }))) (λ a b c d. refl) (omega arith) refl n low
 
 -- the setting's places are words from p on
 pub return_comes : (g : Setting) (c : Core) (p e to v : ℕ) → g.at 1 ≡ p + 4 → g.may 1 ≡ true → p + 4 < 2 ^ 32 → to < 2 ^ 32 → Word g [] (reg c Esp) v

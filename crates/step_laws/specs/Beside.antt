@@ -50,6 +50,7 @@ pub record ShowsSame (added : ℕ → Bool) (o t : State) : Type 0 where
 -- two states are the same but for their instruction pointers and added addresses
 pub record StatesBeside (added : ℕ → Bool) (o t : State) : Type 0 where
   pub core : t.core ≡ o.core
+  pub descs : t.descs ≡ o.descs
   pub calls : t.calls ≡ o.calls
   pub answers : t.answers ≡ o.answers
   pub memory : Beside added o.memory t.memory

@@ -13,8 +13,9 @@ pub record KeepsCells (scratch : ℕ → Bool) (m m' : Memory) : Type 0 where
   pub marked : (a : ℕ) → marks (m' a) ≡ marks (m a)
   pub others : (a : ℕ) → scratch a ≡ false → m' a ≡ m a
 
--- calls made and answers left are the same, and every cell but scratch
+-- calls made, answers left and descriptors are the same, and every cell but scratch
 pub record KeepsRest (scratch : ℕ → Bool) (s u : State) : Type 0 where
+  pub descs : u.descs ≡ s.descs
   pub calls : u.calls ≡ s.calls
   pub answers : u.answers ≡ s.answers
   pub memory : KeepsCells scratch s.memory u.memory

@@ -108,7 +108,7 @@ Moves move a t = t.eip ≡ move a
 
 -- ---- copied bytes
 
--- an instruction whose copy needs nothing but its own rounds
+-- an instruction whose copy needs nothing but its own rounds, or the answer that it takes
 abbrev pub IsOwn : Flow → Type 0
 IsOwn flow.Plain = Unit {0}
 IsOwn flow.Trap = Unit {0}

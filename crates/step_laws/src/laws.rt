@@ -31,8 +31,9 @@ pub fn code_stays()
 
 /// The law of copied bytes. Where an instruction's bytes stand in an added area, one step there comes to what the
 /// instruction comes to, completed or stopped, completed iterations included; it goes to the address behind the bytes where
-/// the instruction goes to `next`. An instruction of its own rounds has no trap at an added address; a system call's effects
-/// touch no added address, and none that may be executed on either side.
+/// the instruction goes to `next`. An instruction of its own rounds has no trap at an added address; CPUID takes the same
+/// answer; a system call's effects touch no added address, and none that may be executed on either side, and what they do to
+/// descriptors is the same.
 pub fn copied_bytes()
     ensures own { (area : Area) (here next : ℕ) (bytes : List ℕ) (o t : State) (i : Insn) →
         AtPiece area here bytes o t → spelled bytes ≡ Some i → IsOwn (flow_of i) →

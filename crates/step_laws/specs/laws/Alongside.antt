@@ -6,7 +6,7 @@ use Rattle.std.proofs.Common.{refl, sym, ap, ap₂, ◌∙◌, subst₂, ⊎_eli
 use Rattle.std.proofs.lemmas.Bool.{both_ways, and_from, lt-ltb, le-leb, cond-false, cases_Bool, ltb-true}
 use Rattle.std.proofs.lemmas.Option.{none-some, same_Some}
 use Rattle.mv_base.specs.Memory.{Cell, Memory, is_mapped, is_writable, is_executable, within, distance, with_byte, put, read_fault, write_fault, bytes_at}
-use Rattle.mv_base.specs.Effects.{Mode, Effect, WriteAt, MapAt, UnmapAt, effect_lo, effect_len, touches, IsEffect, is_write_mode, is_exec_mode, makes_code, applied, Refusal, Executable, first_touched, unmapped, unwritable, refused_access, refusal_of, Applied, AllApplied, RefusedAt, apply_next, apply_all}
+use Rattle.mv_base.specs.Effects.{Mode, Effect, WriteAt, MapAt, UnmapAt, DescAt, effect_lo, effect_len, touches, IsEffect, is_write_mode, is_exec_mode, makes_code, applied, Refusal, Executable, first_touched, unmapped, unwritable, refused_access, refusal_of, Applied, AllApplied, RefusedAt, apply_next, apply_all, Descs, described, describe_next, describe_all}
 use Rattle.step_laws.specs.Keeping.{marks}
 use Rattle.step_laws.specs.Beside.{shown, Beside, IsClearEffect}
 use Rattle.step_laws.specs.Meeting.{Area, Keeps}
@@ -118,6 +118,10 @@ write_is : (m : Memory) (lo : ℕ) (bytes : List ℕ) → applied m (WriteAt lo 
 unfolding applied
 write_is m lo bytes = refl
 
+desc_is : (m : Memory) (index base : ℕ) → applied m (DescAt index base) ≡ m
+unfolding applied
+desc_is m index base = refl
+
 renewed_shows : (w : Bool) (new c d : Option Cell) → shown c ≡ shown d → shown (renewed w new c) ≡ shown (renewed w new d)
 renewed_shows true new c d e = refl
 renewed_shows false new c d e = e
@@ -141,6 +145,7 @@ applied_idle (WriteAt lo bytes) m a k h =
 applied_idle (MapAt lo len mode bytes) m a k h =
     ap (λ (u : Memory). is_executable u a) (map_is m lo len mode bytes) ∙ unfold map_cell in renewed_idle (within lo len a) _ (m a) (made_idle mode lo len bytes k) h
 applied_idle (UnmapAt lo len) m a k h = ap (λ (u : Memory). is_executable u a) (unmap_is m lo len) ∙ unfold unmap_cell in renewed_idle (within lo len a) None (m a) refl h
+applied_idle (DescAt index base) m a k h = ap (λ (u : Memory). is_executable u a) (desc_is m index base) ∙ h
 
 -- effects that come to the same: all are done, or the same one is refused for the same reason
 abbrev pub AppliedAlong : (Memory → Memory → Type 0) → Applied → Applied → Type 0
@@ -204,6 +209,7 @@ module _ (area : Area) (added_low : (a : ℕ) → area.added a ≡ true → a < 
   applied_along (UnmapAt lo len) o t i h k w =
       let clear : IsClearChange area.added (unmap_cell lo len) = unfold unmap_cell in renewed_clear lo len (λ a. None) i.end (λ a. refl) h in
       subst₂ R (sym (unmap_is o lo len)) (sym (unmap_is t lo len)) (changed_along area (unmap_cell lo len) s o t clear w)
+  applied_along (DescAt index base) o t i h k w = subst₂ R (sym (desc_is o index base)) (sym (desc_is t index base)) w
 
   -- tests that agree at what a clear effect touches find the same first address
   touched_along : (e : Effect) (o t : Memory) (p q : ℕ → Bool) → IsEffect e → IsClearEffect area.added o t e → ((a : ℕ) → area.added a ≡ false → is_executable o a ≡ false → is_executable t a ≡ false → q a ≡ p a) → first_touched q e ≡ first_touched p e
@@ -214,11 +220,13 @@ module _ (area : Area) (added_low : (a : ℕ) → area.added a ≡ true → a < 
   unmapped_along (WriteAt lo bytes) o t i h w = touched_along (WriteAt lo bytes) o t (is_mapped o) (is_mapped t) i h (λ a n c d. shown_mapped (t a) (o a) (w.beside.outside a n))
   unmapped_along (MapAt lo len mode bytes) o t i h w = refl
   unmapped_along (UnmapAt lo len) o t i h w = touched_along (UnmapAt lo len) o t (is_mapped o) (is_mapped t) i h (λ a n c d. shown_mapped (t a) (o a) (w.beside.outside a n))
+  unmapped_along (DescAt index base) o t i h w = refl
 
   unwritable_along : (e : Effect) (o t : Memory) → IsEffect e → IsClearEffect area.added o t e → R o t → unwritable t e ≡ unwritable o e
   unwritable_along (WriteAt lo bytes) o t i h w = touched_along (WriteAt lo bytes) o t (is_writable o) (is_writable t) i h (λ a n c d. shown_writable (t a) (o a) (w.beside.outside a n))
   unwritable_along (MapAt lo len mode bytes) o t i h w = refl
   unwritable_along (UnmapAt lo len) o t i h w = refl
+  unwritable_along (DescAt index base) o t i h w = refl
 
   refusal_along : (e : Effect) (o t : Memory) → IsEffect e → IsClearEffect area.added o t e → R o t → refusal_of t e ≡ refusal_of o e
   refusal_along e o t i h w =
@@ -241,3 +249,14 @@ module _ (area : Area) (added_low : (a : ℕ) → area.added a ≡ true → a < 
       go rec None p (Some v) q = absurd (none-some v (sym (q ∙ p)))
       go rec (Some v) p None q = absurd (none-some v (q ∙ p))
       go rec (Some v) p (Some u) q = (same_Some u v (q ∙ p), w)
+
+  -- and leave the same descriptors
+  pub describes_along : (es : List Effect) (o t : Memory) (ds : Descs) → AllByRecursion IsEffect es → AllByRecursion (IsClearEffect area.added o t) es → R o t → describe_all t es ds ≡ describe_all o es ds
+  describes_along [] o t ds i h w = refl
+  describes_along (e ∷ es) o t ds i h w =
+      ap (λ r. describe_next r ds (describe_all (applied t e) es (described ds e))) (refusal_along e o t i.0 h.0 w)
+      ∙ go (describes_along es (applied o e) (applied t e) (described ds e) i.1) (refusal_of o e) refl
+    where
+      go : (AllByRecursion (IsClearEffect area.added (applied o e) (applied t e)) es → R (applied o e) (applied t e) → describe_all (applied t e) es (described ds e) ≡ describe_all (applied o e) es (described ds e)) → (r : Option Refusal) → refusal_of o e ≡ r → describe_next r ds (describe_all (applied t e) es (described ds e)) ≡ describe_next r ds (describe_all (applied o e) es (described ds e))
+      go rec None p = let k = granted_idle e o p in rec (clear_after e o t k es h.1) (applied_along e o t i.0 (λ a u. (h.0 a u).0) k w)
+      go rec (Some v) p = refl

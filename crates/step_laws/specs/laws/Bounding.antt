@@ -1,17 +1,17 @@
 -- Every step keeps the bounds of states, whatever it comes to.
-use Rattle.std.specs.Prelude.{◌≡◌, ℕ, zero, suc, ◌+◌, ◌-◌, ◌^◌, ◌<◌, Bool, true, false, List, [], ◌∷◌, ◌++◌, length, Option, Some, None, nat_lt, nat_le, slice_index, if◌then◌else◌}
+use Rattle.std.specs.Prelude.{◌≡◌, ℕ, zero, suc, ◌+◌, ◌-◌, ◌^◌, ◌<◌, Bool, true, false, List, [], ◌∷◌, ◌++◌, length, Option, Some, None, nat_lt, nat_le, slice_index, ◌==◌, if◌then◌else◌}
 use Rattle.std.specs.List.{AllByRecursion}
 use Rattle.std.specs.Option.{option_map}
 use Rattle.std.proofs.Common.{refl, subst, arith}
 use Rattle.std.proofs.lemmas.Bool.{and_parts, ltb-true}
 use Rattle.mv_base.specs.Bytes.{AreBytes}
 use Rattle.mv_base.specs.Memory.{Cell, Memory, IsMemory, with_byte, distance, within, byte_of, bytes_at, put, address_after, read_fault, write_fault}
-use Rattle.mv_base.specs.Effects.{Mode, Effect, WriteAt, MapAt, UnmapAt, Answer, Ret, IsEffect, IsAnswer, is_write_mode, is_exec_mode, applied, Refusal, Applied, AllApplied, RefusedAt, refusal_of, apply_next, apply_all}
+use Rattle.mv_base.specs.Effects.{Mode, Effect, WriteAt, MapAt, UnmapAt, DescAt, Answer, Ret, IsEffect, IsAnswer, is_write_mode, is_exec_mode, applied, Refusal, Applied, AllApplied, RefusedAt, refusal_of, apply_next, apply_all, Descs, with_base, described, describe_next, describe_all}
 use Rattle.mv_base.specs.Effects as effects
 use Rattle.x86_insn.specs.declared.insn.Insn.{Insn}
 use Rattle.x86_insn.specs.declared.insn.Flow.{Flow}
 use Rattle.x86_insn.specs.declared.insn.Flow.TheVariants as flow
-use Rattle.x86_insn.specs.declared.insn.Reg.TheVariants.{Eax}
+use Rattle.x86_insn.specs.declared.insn.Reg.TheVariants.{Eax, Ecx, Edx, Ebx}
 use Rattle.x86_insn.specs.declared.insn.Width.TheVariants.{D}
 use Rattle.x86_insn.specs.declared.registers.Core.{Core}
 use Rattle.x86_insn.specs.declared.stop.Kind.{Kind}
@@ -21,10 +21,10 @@ use Rattle.x86_insn.specs.declared.ask.Ask.TheVariants.{Reads, Halts, Ends}
 use Rattle.x86_insn.specs.Flow.{flow_of}
 use Rattle.x86_insn.specs.State.{IsCore, State}
 use Rattle.x86_insn.specs.Round.{round, hop, limit}
-use Rattle.x86_insn.specs.Step.{Fetched, Absent, Found, Unknown, fetch, Turn, Ended, Halted, unless_fault, answered, asks, turn, Rounds, Completed, Broken, after_turn, rounds, after_rounds, after_hop, after_effects, system, executed, stepped, step}
+use Rattle.x86_insn.specs.Step.{Fetched, Absent, Found, Unknown, fetch, Turn, Ended, Halted, unless_fault, answered, asks, turn, Rounds, Completed, Broken, after_turn, rounds, after_rounds, after_hop, after_effects, system, with_words, identified, is_cpuid, plainly, executed, stepped, step}
 use Rattle.step_laws.specs.Bounds.{IsState, IsOutcome}
 use Rattle.step_laws.specs.laws.Ends.{EndsWell, AreRead, no_bytes, one_more_byte, set_core}
-use Rattle.step_laws.specs.laws.Rounds.{round_ends, hop_ends}
+use Rattle.step_laws.specs.laws.Rounds.{AreDescs, round_ends, hop_ends}
 
 -- ---- memory
 
@@ -94,14 +94,14 @@ abbrev RoundsFit : Rounds → Type 0
 RoundsFit (Completed c m) = IsCore c × IsMemory m
 RoundsFit (Broken why c m) = IsCore c × IsMemory m
 
-rounds_fit : (n : ℕ) (i : Insn) (c : Core) (m : Memory) → IsCore c → IsMemory m → RoundsFit (rounds n i c m)
+rounds_fit : (n : ℕ) (i : Insn) (ds : Descs) (c : Core) (m : Memory) → AreDescs ds → IsCore c → IsMemory m → RoundsFit (rounds n i ds c m)
 unfolding rounds
-rounds_fit zero i c m core h = (core, h)
-rounds_fit (suc n) i c m core h = go (rounds_fit n i) (turn m (round i c)) (asks_fit (λ e. Unit {0}) 2 m (round i c) [] h (λ got r. round_ends i c got core r) tt)
+rounds_fit zero i ds c m d core h = (core, h)
+rounds_fit (suc n) i ds c m d core h = go (λ e u. rounds_fit n i ds e u d) (turn m (round i ds c)) (asks_fit (λ e. Unit {0}) 2 m (round i ds c) [] h (λ got r. round_ends i ds c got d core r) tt)
   where
-    go : ((d : Core) (u : Memory) → IsCore d → IsMemory u → RoundsFit (rounds n i d u)) → (p : Turn Bool) → TurnFits (λ e. Unit {0}) p → RoundsFit (after_turn p c m (rounds n i))
-    go rec (Ended d u true) f = rec d u f.0 f.1
-    go rec (Ended d u false) f = (f.0, f.1)
+    go : ((e : Core) (u : Memory) → IsCore e → IsMemory u → RoundsFit (rounds n i ds e u)) → (p : Turn Bool) → TurnFits (λ e. Unit {0}) p → RoundsFit (after_turn p c m (rounds n i ds))
+    go rec (Ended e u true) f = rec e u f.0 f.1
+    go rec (Ended e u false) f = (f.0, f.1)
     go rec (Halted why) f = (core, h)
 
 -- ---- effects
@@ -122,6 +122,7 @@ applied_memory m (UnmapAt lo len) i h = from_cells (applied m (UnmapAt lo len)) 
     go : (a : ℕ) (t : Bool) (c : Option Cell) → CellFits a c → CellFits a (if t then None else c)
     go a true c f = tt
     go a false c f = f
+applied_memory m (DescAt index base) i h = from_cells (applied m (DescAt index base)) (λ a. cell_fits m h a)
 
 abbrev AppliedFits : Applied → Type 0
 AppliedFits (AllApplied m) = IsMemory m
@@ -135,34 +136,74 @@ applied_fits (e ∷ es) m i h = go (refusal_of m e) (applied_fits es (applied m 
     go None f = f
     go (Some why) f = h
 
+-- ---- descriptors
+
+base_set : (ds : Descs) (index base : ℕ) → AreDescs ds → base < 2 ^ 32 → AreDescs (with_base ds index base)
+base_set [] index base h k = (k, tt)
+base_set (d ∷ ds) index base h k = go (d.0 == index) (base_set ds index base h.1 k)
+  where
+    go : (t : Bool) → AreDescs (with_base ds index base) → AreDescs (if t then (index, base) ∷ ds else d ∷ with_base ds index base)
+    go true rest = (k, h.1)
+    go false rest = (h.0, rest)
+
+described_fit : (ds : Descs) (e : Effect) → AreDescs ds → IsEffect e → AreDescs (described ds e)
+described_fit ds (WriteAt lo bytes) h i = h
+described_fit ds (MapAt lo len mode bytes) h i = h
+described_fit ds (UnmapAt lo len) h i = h
+described_fit ds (DescAt index base) h i = base_set ds index base h i.some.fits
+
+describe_fit : (es : List Effect) (m : Memory) (ds : Descs) → AllByRecursion IsEffect es → AreDescs ds → AreDescs (describe_all m es ds)
+describe_fit [] m ds i h = h
+describe_fit (e ∷ es) m ds i h = go (refusal_of m e) (describe_fit es (applied m e) (described ds e) i.1 (described_fit ds e h i.0))
+  where
+    go : (r : Option Refusal) → AreDescs (describe_all (applied m e) es (described ds e)) → AreDescs (describe_next r ds (describe_all (applied m e) es (described ds e)))
+    go None rest = rest
+    go (Some why) rest = h
+
 -- ---- outcomes
 
 module _ (s : State) (h : IsState s) where
   after_rounds_fit : (next : ℕ) (r : Rounds) → next < 2 ^ 32 → RoundsFit r → IsOutcome (after_rounds s next r)
-  after_rounds_fit next (Completed c m) low f = record { core = f.0; place = low; memory = f.1; answers = h.answers }
-  after_rounds_fit next (Broken why c m) low f = record { core = f.0; place = h.place; memory = f.1; answers = h.answers }
+  after_rounds_fit next (Completed c m) low f = record { core = f.0; descs = h.descs; place = low; memory = f.1; answers = h.answers }
+  after_rounds_fit next (Broken why c m) low f = record { core = f.0; descs = h.descs; place = h.place; memory = f.1; answers = h.answers }
 
-  own_fits : (i : Insn) (next : ℕ) → next < 2 ^ 32 → IsOutcome (after_rounds s next (rounds (limit i s.core) i s.core s.memory))
-  own_fits i next low = after_rounds_fit next _ low (rounds_fit (limit i s.core) i s.core s.memory h.core h.memory)
+  own_fits : (i : Insn) (next : ℕ) → next < 2 ^ 32 → IsOutcome (after_rounds s next (rounds (limit i s.core) i s.descs s.core s.memory))
+  own_fits i next low = after_rounds_fit next _ low (rounds_fit (limit i s.core) i s.descs s.core s.memory h.descs h.core h.memory)
 
   after_hop_fits : (p : Turn ℕ) → TurnFits (λ to. to < 2 ^ 32) p → IsOutcome (after_hop s p)
-  after_hop_fits (Ended c m to) f = record { core = f.0; place = f.2; memory = f.1; answers = h.answers }
+  after_hop_fits (Ended c m to) f = record { core = f.0; descs = h.descs; place = f.2; memory = f.1; answers = h.answers }
   after_hop_fits (Halted why) f = h
 
   goes_fit : (i : Insn) (next : ℕ) → next < 2 ^ 32 → IsOutcome (after_hop s (turn s.memory (hop next i s.core)))
   goes_fit i next low = after_hop_fits _ (asks_fit (λ to. to < 2 ^ 32) 2 s.memory (hop next i s.core) [] h.memory (λ got r. hop_ends next i s.core got low h.core r) tt)
 
-  after_effects_fit : (next eax : ℕ) (rest : List Answer) (p : Applied) → next < 2 ^ 32 → eax < 2 ^ 32 → AllByRecursion IsAnswer rest → AppliedFits p → IsOutcome (after_effects s next eax rest p)
-  after_effects_fit next eax rest (AllApplied m) low fits r f = record { core = set_core D Eax eax s.core h.core fits; place = low; memory = f; answers = r }
-  after_effects_fit next eax rest (RefusedAt why m) low fits r f = record { core = h.core; place = h.place; memory = f; answers = h.answers }
+  after_effects_fit : (next eax : ℕ) (rest : List Answer) (ds : Descs) (p : Applied) → next < 2 ^ 32 → eax < 2 ^ 32 → AllByRecursion IsAnswer rest → AreDescs ds → AppliedFits p → IsOutcome (after_effects s next eax rest ds p)
+  after_effects_fit next eax rest ds (AllApplied m) low fits r d f = record { core = set_core D Eax eax s.core h.core fits; descs = d; place = low; memory = f; answers = r }
+  after_effects_fit next eax rest ds (RefusedAt why m) low fits r d f = record { core = h.core; descs = d; place = h.place; memory = f; answers = h.answers }
 
   system_fits : (next : ℕ) (answers : List Answer) → next < 2 ^ 32 → AllByRecursion IsAnswer answers → IsOutcome (system s next answers)
   system_fits next [] low r = h
-  system_fits next (effects.Gone ∷ rest) low r = record { core = h.core; place = h.place; memory = h.memory; answers = r.1 }
-  system_fits next (Ret eax es ∷ rest) low r = after_effects_fit next eax rest _ low r.0.0 r.1 (applied_fits es s.memory r.0.1 h.memory)
+  system_fits next (effects.Gone ∷ rest) low r = record { core = h.core; descs = h.descs; place = h.place; memory = h.memory; answers = r.1 }
+  system_fits next (Ret eax es ∷ rest) low r =
+      after_effects_fit next eax rest _ _ low r.0.0 r.1 (describe_fit es s.memory s.descs r.0.1 h.descs) (applied_fits es s.memory r.0.1 h.memory)
+  system_fits next (effects.Cpuid eax ebx ecx edx ∷ rest) low r = h
+
+  words_fit : (eax ebx ecx edx : ℕ) → eax < 2 ^ 32 → ebx < 2 ^ 32 → ecx < 2 ^ 32 → edx < 2 ^ 32 → IsCore (with_words s.core eax ebx ecx edx)
+  words_fit eax ebx ecx edx a b c d = set_core D Edx edx _ (set_core D Ecx ecx _ (set_core D Ebx ebx _ (set_core D Eax eax s.core h.core a) b) c) d
+
+  identified_fits : (next : ℕ) (answers : List Answer) → next < 2 ^ 32 → AllByRecursion IsAnswer answers → IsOutcome (identified s next answers)
+  identified_fits next [] low r = h
+  identified_fits next (effects.Gone ∷ rest) low r = h
+  identified_fits next (Ret eax es ∷ rest) low r = h
+  identified_fits next (effects.Cpuid eax ebx ecx edx ∷ rest) low r =
+      record { core = words_fit eax ebx ecx edx r.0.0 r.0.1 r.0.2 r.0.3; descs = h.descs; place = low; memory = h.memory; answers = r.1 }
+
+  plainly_fits : (t : Bool) (i : Insn) (next : ℕ) → next < 2 ^ 32 → IsOutcome (plainly t s i next)
+  plainly_fits true i next low = identified_fits next s.answers low h.answers
+  plainly_fits false i next low = own_fits i next low
 
   executed_fits : (i : Insn) (next : ℕ) (fl : Flow) → next < 2 ^ 32 → IsOutcome (executed s i next fl)
-  executed_fits i next flow.Plain low = own_fits i next low
+  executed_fits i next flow.Plain low = plainly_fits (is_cpuid i) i next low
   executed_fits i next flow.Trap low = own_fits i next low
   executed_fits i next flow.System low = system_fits next s.answers low h.answers
   executed_fits i next flow.Jump low = goes_fit i next low

@@ -5,7 +5,7 @@ use Rattle.std.proofs.Common.{refl, sym, ap, ◌∙◌, subst, inl, inr, ⊎_eli
 use Rattle.std.proofs.lemmas.Bool.{both_ways, cases_Bool, cases_lt, true≢false, and_parts, leb-true, ltb-true}
 use Rattle.std.proofs.lemmas.Option.{none-some}
 use Rattle.mv_base.specs.Memory.{Cell, Memory, IsMemory, is_mapped, is_writable, is_executable, within, distance, address_after, read_fault, write_fault, bytes_at, put}
-use Rattle.mv_base.specs.Effects.{Mode, Read, Write, Exec, Effect, WriteAt, MapAt, UnmapAt, effect_lo, effect_len, touches, Answer, Ret, IsEffect, IsAnswer, is_write_mode, is_exec_mode, makes_code, applied, Refusal, Executable, first_touched, unmapped, unwritable, refused_access, refusal_of, Applied, AllApplied, RefusedAt, apply_next, apply_all}
+use Rattle.mv_base.specs.Effects.{Mode, Read, Write, Exec, Effect, WriteAt, MapAt, UnmapAt, DescAt, effect_lo, effect_len, touches, Answer, Ret, IsEffect, IsAnswer, is_write_mode, is_exec_mode, makes_code, applied, Refusal, Executable, first_touched, unmapped, unwritable, refused_access, refusal_of, Applied, AllApplied, RefusedAt, apply_next, apply_all, Descs}
 use Rattle.mv_base.specs.Effects as effects
 use Rattle.x86_insn.specs.declared.insn.Insn.{Insn}
 use Rattle.x86_insn.specs.declared.insn.Flow.{Flow}
@@ -18,7 +18,7 @@ use Rattle.x86_insn.specs.declared.ask.Ask.TheVariants.{Reads, Halts, Ends}
 use Rattle.x86_insn.specs.Flow.{flow_of}
 use Rattle.x86_insn.specs.State.{State}
 use Rattle.x86_insn.specs.Round.{round, hop, limit}
-use Rattle.x86_insn.specs.Step.{Fetched, Absent, Found, Unknown, fetch, Turn, Ended, Halted, unless_fault, answered, asks, turn, Rounds, Completed, Broken, after_turn, rounds, after_rounds, after_hop, after_effects, system, executed, stepped, step}
+use Rattle.x86_insn.specs.Step.{Fetched, Absent, Found, Unknown, fetch, Turn, Ended, Halted, unless_fault, answered, asks, turn, Rounds, Completed, Broken, after_turn, rounds, after_rounds, after_hop, after_effects, system, identified, is_cpuid, plainly, executed, stepped, step}
 use Rattle.step_laws.specs.Bounds.{IsState}
 use Rattle.step_laws.specs.Beside.{exec_cell, IsFixed, SameCode, KeepsCode}
 use Rattle.step_laws.specs.laws.Putting.{put_far, put_none, put_marks, marks_mapped, marks_executable}
@@ -123,12 +123,12 @@ rounds_then : (m n : Memory) (r : Rounds) → SameCode m n → RoundsLeave n r �
 rounds_then m n (Completed c p) h k = same_then m n p h k
 rounds_then m n (Broken why c p) h k = same_then m n p h k
 
-rounds_leave : (k : ℕ) (i : Insn) (c : Core) (m : Memory) → IsLow m → IsFixed m → RoundsLeave m (rounds k i c m)
+rounds_leave : (k : ℕ) (i : Insn) (ds : Descs) (c : Core) (m : Memory) → IsLow m → IsFixed m → RoundsLeave m (rounds k i ds c m)
 unfolding rounds
-rounds_leave zero i c m h f = λ a. refl
-rounds_leave (suc k) i c m h f = go (rounds_leave k i) (turn m (round i c)) (asks_leave m h f 2 (round i c) [])
+rounds_leave zero i ds c m h f = λ a. refl
+rounds_leave (suc k) i ds c m h f = go (rounds_leave k i ds) (turn m (round i ds c)) (asks_leave m h f 2 (round i ds c) [])
   where
-    go : ((d : Core) (n : Memory) → IsLow n → IsFixed n → RoundsLeave n (rounds k i d n)) → (p : Turn Bool) → TurnLeaves m p → RoundsLeave m (after_turn p c m (rounds k i))
+    go : ((d : Core) (n : Memory) → IsLow n → IsFixed n → RoundsLeave n (rounds k i ds d n)) → (p : Turn Bool) → TurnLeaves m p → RoundsLeave m (after_turn p c m (rounds k i ds))
     go rec (Ended d n true) t = rounds_then m n _ t.0 (rec d n t.1 (fixed_same m n t.0 f))
     go rec (Ended d n false) t = t.0
     go rec (Halted why) t = λ a. refl
@@ -190,6 +190,7 @@ applied_leaves (UnmapAt lo len) m i g h = (λ a. code a (within lo len a) refl, 
     low : (a : ℕ) (t : Bool) → is_some {T = Cell} (if t then None else m a) ≡ true → a < 2 ^ 32
     low a true k = absurd (true≢false (sym k))
     low a false k = h a k
+applied_leaves (DescAt index base) m i g h = (λ a. refl, h)
 
 abbrev AppliedLeaves : Memory → Applied → Type 0
 AppliedLeaves m (AllApplied n) = SameCode m n
@@ -214,8 +215,8 @@ module _ (s : State) (h : IsLow s.memory) (f : IsFixed s.memory) where
   after_rounds_leave next (Completed c m) k = k
   after_rounds_leave next (Broken why c m) k = k
 
-  own_leaves : (i : Insn) (next : ℕ) → KeepsCode s.memory (after_rounds s next (rounds (limit i s.core) i s.core s.memory))
-  own_leaves i next = after_rounds_leave next _ (rounds_leave (limit i s.core) i s.core s.memory h f)
+  own_leaves : (i : Insn) (next : ℕ) → KeepsCode s.memory (after_rounds s next (rounds (limit i s.core) i s.descs s.core s.memory))
+  own_leaves i next = after_rounds_leave next _ (rounds_leave (limit i s.core) i s.descs s.core s.memory h f)
 
   after_hop_leaves : (p : Turn ℕ) → TurnLeaves s.memory p → KeepsCode s.memory (after_hop s p)
   after_hop_leaves (Ended c m to) k = k.0
@@ -224,17 +225,28 @@ module _ (s : State) (h : IsLow s.memory) (f : IsFixed s.memory) where
   goes_leaves : (i : Insn) (next : ℕ) → KeepsCode s.memory (after_hop s (turn s.memory (hop next i s.core)))
   goes_leaves i next = after_hop_leaves _ (asks_leave s.memory h f 2 (hop next i s.core) [])
 
-  after_effects_leave : (next eax : ℕ) (rest : List Answer) (p : Applied) → AppliedLeaves s.memory p → KeepsCode s.memory (after_effects s next eax rest p)
-  after_effects_leave next eax rest (AllApplied m) k = k
-  after_effects_leave next eax rest (RefusedAt why m) k = k
+  after_effects_leave : (next eax : ℕ) (rest : List Answer) (ds : Descs) (p : Applied) → AppliedLeaves s.memory p → KeepsCode s.memory (after_effects s next eax rest ds p)
+  after_effects_leave next eax rest ds (AllApplied m) k = k
+  after_effects_leave next eax rest ds (RefusedAt why m) k = k
 
   system_leaves : (next : ℕ) (answers : List Answer) → AllByRecursion IsAnswer answers → KeepsCode s.memory (system s next answers)
   system_leaves next [] r = λ a. refl
   system_leaves next (effects.Gone ∷ rest) r = λ a. refl
-  system_leaves next (Ret eax es ∷ rest) r = after_effects_leave next eax rest _ (effects_leave es s.memory r.0.1 h)
+  system_leaves next (Ret eax es ∷ rest) r = after_effects_leave next eax rest _ _ (effects_leave es s.memory r.0.1 h)
+  system_leaves next (effects.Cpuid eax ebx ecx edx ∷ rest) r = λ a. refl
+
+  identified_leaves : (next : ℕ) (answers : List Answer) → KeepsCode s.memory (identified s next answers)
+  identified_leaves next [] = λ a. refl
+  identified_leaves next (effects.Gone ∷ rest) = λ a. refl
+  identified_leaves next (Ret eax es ∷ rest) = λ a. refl
+  identified_leaves next (effects.Cpuid eax ebx ecx edx ∷ rest) = λ a. refl
+
+  plainly_leaves : (t : Bool) (i : Insn) (next : ℕ) → KeepsCode s.memory (plainly t s i next)
+  plainly_leaves true i next = identified_leaves next s.answers
+  plainly_leaves false i next = own_leaves i next
 
   pub executed_leaves : (i : Insn) (next : ℕ) (fl : Flow) → AllByRecursion IsAnswer s.answers → KeepsCode s.memory (executed s i next fl)
-  executed_leaves i next flow.Plain r = own_leaves i next
+  executed_leaves i next flow.Plain r = plainly_leaves (is_cpuid i) i next
   executed_leaves i next flow.Trap r = own_leaves i next
   executed_leaves i next flow.System r = system_leaves next s.answers r
   executed_leaves i next flow.Jump r = goes_leaves i next

@@ -5,7 +5,7 @@ use Rattle.std.specs.List.{AllByRecursion}
 use Rattle.std.proofs.Common.{refl, sym, ap, ap₂, ◌∙◌, subst, subst₂, inl, arith}
 use Rattle.std.proofs.lemmas.Bool.{true≢false}
 use Rattle.mv_base.specs.Memory.{Memory, read_fault, write_fault, bytes_at, put, address_after}
-use Rattle.mv_base.specs.Effects.{Effect, Answer, Ret, IsAnswer, Applied, AllApplied, RefusedAt, apply_all}
+use Rattle.mv_base.specs.Effects.{Effect, Answer, Ret, IsAnswer, Applied, AllApplied, RefusedAt, apply_all, Descs, describe_all}
 use Rattle.mv_base.specs.Effects as effects
 use Rattle.x86_insn.specs.declared.insn.Insn.{Insn}
 use Rattle.x86_insn.specs.declared.insn.Flow.{Flow}
@@ -20,7 +20,7 @@ use Rattle.x86_insn.specs.Flow.{flow_of}
 use Rattle.x86_insn.specs.Spelling.{spelled}
 use Rattle.x86_insn.specs.State.{State, Outcome, Next, Stopped}
 use Rattle.x86_insn.specs.Round.{round, limit}
-use Rattle.x86_insn.specs.Step.{fetch, Turn, Ended, Halted, unless_fault, answered, asks, turn, Rounds, Completed, Broken, after_turn, rounds, after_rounds, call_of, refused, after_effects, system, executed, step}
+use Rattle.x86_insn.specs.Step.{fetch, Turn, Ended, Halted, unless_fault, answered, asks, turn, Rounds, Completed, Broken, after_turn, rounds, after_rounds, call_of, refused, after_effects, system, with_words, identified, is_cpuid, plainly, executed, step}
 use Rattle.x86_insn.specs.TakenUp.{first_effects}
 use Rattle.step_laws.specs.Beside.{ShowsSame, StatesBeside, IsClearStop, IsClearOutcome, IsClearEffect}
 use Rattle.step_laws.specs.Meeting.{Area, AtPiece, Meets, GoesTo, IsOwn, AreClear}
@@ -29,7 +29,7 @@ use Rattle.step_laws.specs.laws.Fetching.{standing_fetched}
 use Rattle.step_laws.specs.laws.Turns.{fetched_step}
 use Rattle.step_laws.specs.laws.Cells.{IsClearFault}
 use Rattle.step_laws.specs.laws.Coding.{low_memory}
-use Rattle.step_laws.specs.laws.Alongside.{Alongside, keeps_same, AppliedAlong, read_fault_along, write_fault_along, bytes_along, granted_along, effects_along}
+use Rattle.step_laws.specs.laws.Alongside.{Alongside, keeps_same, AppliedAlong, read_fault_along, write_fault_along, bytes_along, granted_along, effects_along, describes_along}
 
 -- a turn and rounds that do not stop at an added address
 abbrev pub IsClearTurn : {E : Type 0} → (ℕ → Bool) → Turn E → Type 0
@@ -56,6 +56,7 @@ RoundsAlong R (Broken why c m) (Broken other d n) = (other ≡ why) × (d ≡ c)
 -- states that are the same but for their instruction pointers and the area
 pub record StatesAlong (R : Memory → Memory → Type 0) (o t : State) : Type 0 where
   pub core : t.core ≡ o.core
+  pub descs : t.descs ≡ o.descs
   pub calls : t.calls ≡ o.calls
   pub answers : t.answers ≡ o.answers
   pub memory : R o.memory t.memory
@@ -116,13 +117,13 @@ module _ (area : Area) (added_low : (a : ℕ) → area.added a ≡ true → a < 
   turn_clear (Ended d n false) c m again h = tt
   turn_clear (Halted why) c m again h = h
 
-  rounds_along : (n : ℕ) (i : Insn) (c : Core) (o t : Memory) → R o t → IsClearRounds area.added (rounds n i c o) → RoundsAlong R (rounds n i c o) (rounds n i c t)
+  rounds_along : (n : ℕ) (i : Insn) (ds : Descs) (c : Core) (o t : Memory) → R o t → IsClearRounds area.added (rounds n i ds c o) → RoundsAlong R (rounds n i ds c o) (rounds n i ds c t)
   unfolding rounds
-  rounds_along zero i c o t w h = (refl, w)
-  rounds_along (suc n) i c o t w h = go (rounds_along n i) (turn o (round i c)) (turn t (round i c)) (turn_along o t w (round i c) (turn_clear (turn o (round i c)) c o (rounds n i) h)) h
+  rounds_along zero i ds c o t w h = (refl, w)
+  rounds_along (suc n) i ds c o t w h = go (rounds_along n i ds) (turn o (round i ds c)) (turn t (round i ds c)) (turn_along o t w (round i ds c) (turn_clear (turn o (round i ds c)) c o (rounds n i ds) h)) h
     where
-      go : ((d : Core) (u v : Memory) → R u v → IsClearRounds area.added (rounds n i d u) → RoundsAlong R (rounds n i d u) (rounds n i d v)) → (p q : Turn Bool) → TurnAlong R p q → IsClearRounds area.added (after_turn p c o (rounds n i)) → RoundsAlong R (after_turn p c o (rounds n i)) (after_turn q c t (rounds n i))
-      go rec (Ended d u true) (Ended e v true) a h = subst (λ k. RoundsAlong R (rounds n i d u) (rounds n i k v)) (sym a.0) (rec d u v a.1 h)
+      go : ((d : Core) (u v : Memory) → R u v → IsClearRounds area.added (rounds n i ds d u) → RoundsAlong R (rounds n i ds d u) (rounds n i ds d v)) → (p q : Turn Bool) → TurnAlong R p q → IsClearRounds area.added (after_turn p c o (rounds n i ds)) → RoundsAlong R (after_turn p c o (rounds n i ds)) (after_turn q c t (rounds n i ds))
+      go rec (Ended d u true) (Ended e v true) a h = subst (λ k. RoundsAlong R (rounds n i ds d u) (rounds n i ds k v)) (sym a.0) (rec d u v a.1 h)
       go rec (Ended d u true) (Ended e v false) a h = absurd (true≢false (sym a.2))
       go rec (Ended d u false) (Ended e v true) a h = absurd (true≢false a.2)
       go rec (Ended d u false) (Ended e v false) a h = (a.0, a.1)
@@ -138,30 +139,45 @@ module _ (area : Area) (added_low : (a : ℕ) → area.added a ≡ true → a < 
   rounds_clear (Broken why c m) o next h = h
 
   after_rounds_along : (o t : State) (at to : ℕ) → StatesAlong R o t → (p q : Rounds) → RoundsAlong R p q → OutcomesAlong R at to (after_rounds o at p) (after_rounds t to q)
-  after_rounds_along o t at to w (Completed c m) (Completed d n) a = (record { core = a.0; calls = w.calls; answers = w.answers; memory = a.1 }, refl, refl)
+  after_rounds_along o t at to w (Completed c m) (Completed d n) a = (record { core = a.0; descs = w.descs; calls = w.calls; answers = w.answers; memory = a.1 }, refl, refl)
   after_rounds_along o t at to w (Completed c m) (Broken why d n) a = a
   after_rounds_along o t at to w (Broken why c m) (Completed d n) a = a
-  after_rounds_along o t at to w (Broken why c m) (Broken other d n) a = (a.0, record { core = a.1; calls = w.calls; answers = w.answers; memory = a.2 })
+  after_rounds_along o t at to w (Broken why c m) (Broken other d n) a = (a.0, record { core = a.1; descs = w.descs; calls = w.calls; answers = w.answers; memory = a.2 })
 
-  own_along : (o t : State) (at to : ℕ) (i : Insn) → StatesAlong R o t → IsClearOutcome area.added (after_rounds o at (rounds (limit i o.core) i o.core o.memory)) → OutcomesAlong R at to (after_rounds o at (rounds (limit i o.core) i o.core o.memory)) (after_rounds t to (rounds (limit i t.core) i t.core t.memory))
+  own_along : (o t : State) (at to : ℕ) (i : Insn) → StatesAlong R o t → IsClearOutcome area.added (after_rounds o at (rounds (limit i o.core) i o.descs o.core o.memory)) → OutcomesAlong R at to (after_rounds o at (rounds (limit i o.core) i o.descs o.core o.memory)) (after_rounds t to (rounds (limit i t.core) i t.descs t.core t.memory))
   own_along o t at to i w h =
-      let same = rounds_along (limit i o.core) i o.core o.memory t.memory w.memory (rounds_clear (rounds (limit i o.core) i o.core o.memory) o at h) in
-      after_rounds_along o t at to w _ _ (subst (λ c. RoundsAlong R (rounds (limit i o.core) i o.core o.memory) (rounds (limit i c) i c t.memory)) (sym w.core) same)
+      let same = rounds_along (limit i o.core) i o.descs o.core o.memory t.memory w.memory (rounds_clear (rounds (limit i o.core) i o.descs o.core o.memory) o at h) in
+      after_rounds_along o t at to w _ _ (subst₂ (λ ds c. RoundsAlong R (rounds (limit i o.core) i o.descs o.core o.memory) (rounds (limit i c) i ds c t.memory)) (sym w.descs) (sym w.core) same)
 
-  after_effects_along : (o t : State) (at to eax : ℕ) (rest : List Answer) → StatesAlong R o t → (p q : Applied) → AppliedAlong R p q → OutcomesAlong R at to (after_effects o at eax rest p) (after_effects t to eax rest q)
-  after_effects_along o t at to eax rest w (AllApplied m) (AllApplied n) a =
-      (record { core = ap (λ (c : Core). record c { regs = slice_set c.regs 0 eax }) w.core; calls = ap₂ (λ (l : List (List ℕ)) (c : Core). l ++ call_of c ∷ []) w.calls w.core; answers = refl; memory = a }, refl, refl)
-  after_effects_along o t at to eax rest w (AllApplied m) (RefusedAt why n) a = a
-  after_effects_along o t at to eax rest w (RefusedAt why m) (AllApplied n) a = a
-  after_effects_along o t at to eax rest w (RefusedAt why m) (RefusedAt other n) a = (ap refused a.0, record { core = w.core; calls = w.calls; answers = w.answers; memory = a.1 })
+  after_effects_along : (o t : State) (at to eax : ℕ) (rest : List Answer) → StatesAlong R o t → (ds es : Descs) → es ≡ ds → (p q : Applied) → AppliedAlong R p q → OutcomesAlong R at to (after_effects o at eax rest ds p) (after_effects t to eax rest es q)
+  after_effects_along o t at to eax rest w ds es d (AllApplied m) (AllApplied n) a =
+      (record { core = ap (λ (c : Core). record c { regs = slice_set c.regs 0 eax }) w.core; descs = d; calls = ap₂ (λ (l : List (List ℕ)) (c : Core). l ++ call_of c ∷ []) w.calls w.core; answers = refl; memory = a }, refl, refl)
+  after_effects_along o t at to eax rest w ds es d (AllApplied m) (RefusedAt why n) a = a
+  after_effects_along o t at to eax rest w ds es d (RefusedAt why m) (AllApplied n) a = a
+  after_effects_along o t at to eax rest w ds es d (RefusedAt why m) (RefusedAt other n) a = (ap refused a.0, record { core = w.core; descs = d; calls = w.calls; answers = w.answers; memory = a.1 })
 
   system_along : (o t : State) (at to : ℕ) → StatesAlong R o t → (answers : List Answer) → AllByRecursion IsAnswer answers → AllByRecursion (IsClearEffect area.added o.memory t.memory) (first_effects answers) → OutcomesAlong R at to (system o at answers) (system t to answers)
   system_along o t at to w [] i h = (refl, w)
-  system_along o t at to w (effects.Gone ∷ rest) i h = (refl, record { core = w.core; calls = ap₂ (λ (l : List (List ℕ)) (c : Core). l ++ call_of c ∷ []) w.calls w.core; answers = refl; memory = w.memory })
-  system_along o t at to w (Ret eax es ∷ rest) i h = after_effects_along o t at to eax rest w (apply_all o.memory es) (apply_all t.memory es) (effects_along area added_low s es o.memory t.memory i.0.1 h w.memory)
+  system_along o t at to w (effects.Gone ∷ rest) i h = (refl, record { core = w.core; descs = w.descs; calls = ap₂ (λ (l : List (List ℕ)) (c : Core). l ++ call_of c ∷ []) w.calls w.core; answers = refl; memory = w.memory })
+  system_along o t at to w (Ret eax es ∷ rest) i h =
+      let descs = ap (describe_all t.memory es) w.descs ∙ describes_along area added_low s es o.memory t.memory o.descs i.0.1 h w.memory in
+      after_effects_along o t at to eax rest w _ _ descs (apply_all o.memory es) (apply_all t.memory es) (effects_along area added_low s es o.memory t.memory i.0.1 h w.memory)
+  system_along o t at to w (effects.Cpuid eax ebx ecx edx ∷ rest) i h = (refl, w)
 
   call_along : (o t : State) (at to : ℕ) → StatesAlong R o t → AllByRecursion IsAnswer o.answers → AllByRecursion (IsClearEffect area.added o.memory t.memory) (first_effects o.answers) → OutcomesAlong R at to (system o at o.answers) (system t to t.answers)
   call_along o t at to w i h = subst (λ l. OutcomesAlong R at to (system o at o.answers) (system t to l)) (sym w.answers) (system_along o t at to w o.answers i h)
+
+  -- CPUID takes the same answer
+  identified_along : (o t : State) (at to : ℕ) → StatesAlong R o t → (answers : List Answer) → OutcomesAlong R at to (identified o at answers) (identified t to answers)
+  identified_along o t at to w [] = (refl, w)
+  identified_along o t at to w (effects.Gone ∷ rest) = (refl, w)
+  identified_along o t at to w (Ret eax es ∷ rest) = (refl, w)
+  identified_along o t at to w (effects.Cpuid eax ebx ecx edx ∷ rest) =
+      (record { core = ap (λ (c : Core). with_words c eax ebx ecx edx) w.core; descs = w.descs; calls = w.calls; answers = refl; memory = w.memory }, refl, refl)
+
+  plainly_along : (c : Bool) (o t : State) (at to : ℕ) (i : Insn) → StatesAlong R o t → IsClearOutcome area.added (plainly c o i at) → OutcomesAlong R at to (plainly c o i at) (plainly c t i to)
+  plainly_along true o t at to i w h = subst (λ l. OutcomesAlong R at to (identified o at o.answers) (identified t to l)) (sym w.answers) (identified_along o t at to w o.answers)
+  plainly_along false o t at to i w h = own_along o t at to i w h
 
 -- ---- what stands at the piece
 
@@ -176,13 +192,14 @@ module _ (area : Area) (here : ℕ) (bytes : List ℕ) (o t : State) (at : AtPie
   begins : Along o t
   begins = record {
     core = at.beside.core;
+    descs = at.beside.descs;
     calls = at.beside.calls;
     answers = at.beside.answers;
     memory = record { low = low_memory o.memory at.bounds.memory; beside = at.beside.memory; keeps = keeps_same area t.memory };
   }
 
   beside_of : (u v : State) → Along u v → StatesBeside area.added u v
-  beside_of u v w = record { core = w.core; calls = w.calls; answers = w.answers; memory = w.memory.beside }
+  beside_of u v w = record { core = w.core; descs = w.descs; calls = w.calls; answers = w.answers; memory = w.memory.beside }
 
   -- an outcome of t's step that is alike is met in one step
   meets_of : (next to : ℕ) (p q : Outcome) → step t ≡ q → OutcomesAlong (Alongside area t.memory) next to p q → Meets area 1 (GoesTo next to) o t p
@@ -221,7 +238,7 @@ module _ (area : Area) (here : ℕ) (bytes : List ℕ) (o t : State) (at : AtPie
   own_meets i next e own clear = meets_of next (here + length bytes) _ _ (executes i e) (by_flow (flow_of i) own clear)
     where
       by_flow : (fl : Flow) → IsOwn fl → IsClearOutcome area.added (executed o i next fl) → OutcomesAlong (Alongside area t.memory) next (here + length bytes) (executed o i next fl) (executed t i (here + length bytes) fl)
-      by_flow flow.Plain own clear = own_along area at.area_there.low t.memory o t next (here + length bytes) i begins clear
+      by_flow flow.Plain own clear = plainly_along area at.area_there.low t.memory (is_cpuid i) o t next (here + length bytes) i begins clear
       by_flow flow.Trap own clear = own_along area at.area_there.low t.memory o t next (here + length bytes) i begins clear
       by_flow flow.System own clear = absurd own
       by_flow flow.Jump own clear = absurd own

@@ -21,6 +21,7 @@ use Rattle.x86_insn.specs.declared.registers.Core.{Core}
 use Rattle.x86_insn.specs.Values.{width_bytes, modulus}
 use Rattle.x86_insn.specs.Operands.{reg, reg_value, set_reg, set_flags, regs_with, with_low_byte, with_second_byte, with_low_half, set_byte_reg, effective_address, bytes_of}
 use Rattle.x86_insn.specs.Ask.{got_at, got_rm, got_src, with_read, with_rm, with_src, ends_in}
+use Rattle.x86_insn.specs.Round.{unless_beyond}
 use Rattle.x86_insn.specs.declared.ask.Ask.{Ask}
 use Rattle.x86_insn.specs.declared.ask.Ask.TheVariants.{Reads, Halts, Ends}
 use Rattle.step_laws.specs.laws.Values.{mod_fits}
@@ -36,6 +37,11 @@ abbrev pub EndsWell : {E : Type 0} → (E → Type 0) → Ask E → Type 0
 EndsWell Good (Reads at len) = Unit {0}
 EndsWell Good (Halts why) = Unit {0}
 EndsWell Good (Ends c w e) = IsCore c × AreWritten w × Good e
+
+-- so does one that stops where what it accesses can't be reached
+pub unless_beyond_ends : {E : Type 0} (Good : E → Type 0) (t : Bool) (ask : Ask E) → EndsWell Good ask → EndsWell Good (unless_beyond t ask)
+unless_beyond_ends Good true ask h = tt
+unless_beyond_ends Good false ask h = h
 
 -- ---- registers
 
@@ -96,10 +102,10 @@ registers_with D regs r n h l = set_fits regs (reg_number r) n h l (register_num
 
 -- a register of a core may get a value of its width
 pub set_core : (w : Width) (r : Reg) (n : ℕ) (c : Core) → IsCore c → n < modulus w → IsCore (set_reg w r n c)
-set_core w r n c h l = let q = registers_with w c.regs r n (record { eight = h.eight; fits = h.fits }) l in record { eight = q.eight; fits = q.fits }
+set_core w r n c h l = let q = registers_with w c.regs r n (record { eight = h.eight; fits = h.fits }) l in record { eight = q.eight; fits = q.fits; selector = h.selector; base = h.base }
 
 pub flags_core : (f : Flags) (c : Core) → IsCore c → IsCore (set_flags f c)
-flags_core f c h = record { eight = h.eight; fits = h.fits }
+flags_core f c h = record { eight = h.eight; fits = h.fits; selector = h.selector; base = h.base }
 
 -- ---- bytes
 

@@ -62,12 +62,13 @@ module _ (area : Area) (o t : State) (there : HasArea area t.memory) (w : States
 
   -- it comes to a state that is the same but for registers, flags and where it goes on
   pub rest_reaches : (n : ℕ) (Arrives : ℕ → State → Type 0) (o' last : State) → Passes (KeepsRest area.scratch t) n t last → KeepsRest area.scratch t last
-      → last.core ≡ o'.core → o'.calls ≡ o.calls → o'.answers ≡ o.answers → o'.memory ≡ o.memory → Arrives o'.eip last → Reaches area n Arrives o o' t
-  rest_reaches n Arrives o' last p k core calls answers memory arrives = record {
+      → last.core ≡ o'.core → o'.descs ≡ o.descs → o'.calls ≡ o.calls → o'.answers ≡ o.answers → o'.memory ≡ o.memory → Arrives o'.eip last → Reaches area n Arrives o o' t
+  rest_reaches n Arrives o' last p k core descs calls answers memory arrives = record {
     last = last;
     passes = passes_weaker (KeepsRest area.scratch t) (λ u. ShowsSame area.added o u ⊎ ShowsSame area.added o' u) (λ u k. inl (rest_shows u k)) n t last p;
     alike = record {
       core = core;
+      descs = k.descs ∙ w.descs ∙ sym descs;
       calls = k.calls ∙ w.calls ∙ sym calls;
       answers = k.answers ∙ w.answers ∙ sym answers;
       memory = subst (λ m. Beside area.added m last.memory) (sym memory) (cells_beside area t.memory there o.memory last.memory w.memory k.memory);
@@ -86,6 +87,6 @@ module _ (area : Area) (o t : State) (there : HasArea area t.memory) (w : States
     passes = passes_weaker (KeepsRest area.scratch t) (ShowsSame area.added o) rest_shows k t last p;
     shows = rest_shows last kept;
     stops = stops;
-    alike = record { core = core; calls = kept.calls ∙ w.calls; answers = kept.answers ∙ w.answers; memory = cells_beside area t.memory there o.memory last.memory w.memory kept.memory };
+    alike = record { core = core; descs = kept.descs ∙ w.descs; calls = kept.calls ∙ w.calls; answers = kept.answers ∙ w.answers; memory = cells_beside area t.memory there o.memory last.memory w.memory kept.memory };
     keeps = cells_keep area t.memory there last.memory kept.memory;
   }

@@ -1,8 +1,10 @@
 -- Every round and every transfer ends within bounds: one line an instruction.
-use Rattle.std.specs.Prelude.{ℕ, zero, suc, ◌-◌, ◌%◌, ◌^◌, ◌<◌, Bool, true, false, List, [], ◌∷◌, Option, Some, None, ◌==◌, nat_lt, slice_index, if◌then◌else◌}
+use Rattle.std.specs.Prelude.{ℕ, zero, suc, ◌-◌, ◌/◌, ◌%◌, ◌^◌, ◌<◌, Bool, true, false, List, [], ◌∷◌, Option, Some, None, IfSome, ◌==◌, nat_lt, slice_index, if◌then◌else◌}
+use Rattle.std.specs.List.{AllByRecursion}
 use Rattle.std.specs.Int.{w32, swap_bytes}
 use Rattle.std.proofs.Common.{refl, arith}
 use Rattle.mv_base.specs.Bytes.{AreBytes}
+use Rattle.mv_base.specs.Effects.{Descs, base_at}
 use Rattle.x86_insn.specs.declared.flags.Flags.{Flags}
 use Rattle.x86_insn.specs.declared.insn.AluOp.{AluOp}
 use Rattle.x86_insn.specs.declared.insn.AluOp.TheVariants.{Add}
@@ -16,6 +18,7 @@ use Rattle.x86_insn.specs.declared.insn.Reg.TheVariants.{Eax, Ecx, Edx, Esp, Ebp
 use Rattle.x86_insn.specs.declared.insn.Rep.{Rep}
 use Rattle.x86_insn.specs.declared.insn.Rep.TheVariants.{Once, F3, F2}
 use Rattle.x86_insn.specs.declared.insn.Rm.{Rm}
+use Rattle.x86_insn.specs.declared.insn.Rm.TheVariants as rm
 use Rattle.x86_insn.specs.declared.insn.ShiftOp.{ShiftOp}
 use Rattle.x86_insn.specs.declared.insn.StrOp.{StrOp}
 use Rattle.x86_insn.specs.declared.insn.StrOp.TheVariants.{Movs, Cmps, Stos, Lods, Scas}
@@ -33,9 +36,10 @@ use Rattle.x86_insn.specs.Moves.{movx_value, sign_filled, pushes, popped_regs, p
 use Rattle.x86_insn.specs.Arithmetic.{is_compare, alu_end, unary_end, cmpxchg_end, set_double, high_half, mul_end, div_end, count_of, shift_end, double_end, is_test, bit_end, scan_end}
 use Rattle.x86_insn.specs.Strings.{moved, counted, str_round}
 use Rattle.x86_insn.specs.Transfers.{loop_core, target_of}
-use Rattle.x86_insn.specs.Round.{round, hop}
+use Rattle.x86_insn.specs.Segments.{set_gs, loaded_from, loaded, from_gs_round}
+use Rattle.x86_insn.specs.Round.{stands_beyond, reached_round, round, reached_hop, hop}
 use Rattle.step_laws.specs.laws.Values.{modulus_pos, mod_fits, wrapped_fits, alu_fits, bump_fits, difference_fits, not_fits, low_fits, high_fits, FitBoth, div_fits, shift_fits, double_fits, bit_fits, FitsIfSome, scan_fits}
-use Rattle.step_laws.specs.laws.Ends.{EndsWell, AreRead, reg_fits, value_fits, set_core, flags_core, value_bytes, word_bytes, word_below, read_ends, rm_ends, src_ends, ends_in_well}
+use Rattle.step_laws.specs.laws.Ends.{EndsWell, AreRead, unless_beyond_ends, reg_fits, value_fits, set_core, flags_core, value_bytes, word_bytes, word_below, read_ends, rm_ends, src_ends, ends_in_well}
 
 -- the end of a round may be anything
 abbrev pub RoundEnds : Ask Bool → Type 0
@@ -103,7 +107,7 @@ module _ (c : Core) (core : IsCore c) where
 
   popad_ends : (got : List (List ℕ)) → AreRead got → RoundEnds (popad_round c got)
   popad_ends [] h = tt
-  popad_ends (bytes ∷ rest) h = (record { eight = refl; fits = popped_fits (reg c Esp) bytes h.0 }, tt, tt)
+  popad_ends (bytes ∷ rest) h = (record { eight = refl; fits = popped_fits (reg c Esp) bytes h.0; selector = core.selector; base = core.base }, tt, tt)
 
   popfd_ends : (n : ℕ) → RoundEnds (popfd_end n c)
   popfd_ends n = either_ends (sets_other_flags n) _ _ tt (flags_core _ _ (address_core Esp _ c core), tt, tt)
@@ -168,58 +172,94 @@ string_ends Stos w rep c got core h = (counted_core rep _ (moved_core w Edi c co
 string_ends Lods w rep c got core h = read_ends _ (reg c Esi) w got _ h (λ n rest l k. (counted_core rep _ (set_core w Eax n _ (moved_core w Esi c core) l), tt, tt))
 string_ends Scas w rep c got core h = read_ends _ (reg c Edi) w got _ h (λ b rest l k. (counted_core rep _ (flags_core _ _ (moved_core w Edi c core)), tt, tt))
 
+-- ---- moves to and from GS
+
+-- descriptors whose bases have 32 bits
+abbrev pub AreDescs : Descs → Type 0
+AreDescs ds = AllByRecursion (λ d. d.1 < 2 ^ 32) ds
+
+base_fits : (ds : Descs) (index : ℕ) → AreDescs ds → IfSome (base_at ds index) (λ b. b < 2 ^ 32)
+base_fits [] index h = tt
+base_fits (d ∷ ds) index h = go (d.0 == index) (base_fits ds index h.1)
+  where
+    go : (t : Bool) → IfSome (base_at ds index) (λ b. b < 2 ^ 32) → IfSome (if t then Some d.1 else base_at ds index) (λ b. b < 2 ^ 32)
+    go true k = h.0
+    go false k = k
+
+gs_core : (selector : ℕ) (base : Option ℕ) (c : Core) → IsCore c → selector < 2 ^ 16 → IfSome base (λ b. b < 2 ^ 32) → IsCore (set_gs selector base c)
+gs_core selector base c h l k = record { eight = h.eight; fits = h.fits; selector = l; base = k }
+
+loaded_from_ends : (base : Option ℕ) (selector : ℕ) (c : Core) → IsCore c → selector < 2 ^ 16 → IfSome base (λ b. b < 2 ^ 32) → RoundEnds (loaded_from base selector c)
+loaded_from_ends None selector c h l k = tt
+loaded_from_ends (Some base) selector c h l k = (gs_core selector (Some base) c h l k, tt, tt)
+
+loaded_ends : (ds : Descs) (selector : ℕ) (c : Core) → AreDescs ds → IsCore c → selector < 2 ^ 16 → RoundEnds (loaded ds selector c)
+loaded_ends ds selector c d h l =
+    either_ends (nat_lt selector 4) _ _ (gs_core selector None c h l tt, tt, tt)
+    (either_ends (selector % 8 == 3) _ _ (loaded_from_ends (base_at ds (selector / 8)) selector c h l (base_fits ds (selector / 8) d)) tt)
+
+from_gs_ends : (w : Width) (dst : Rm) (c : Core) → IsCore c → RoundEnds (from_gs_round w dst c)
+from_gs_ends w (rm.R r) c h = (set_core w r _ c h (mod_fits w c.gs), tt, tt)
+from_gs_ends w (rm.M m) c h = (h, value_bytes W c.gs, tt)
+
 -- ---- the table of rounds
 
-pub round_ends : (i : Insn) (c : Core) (got : List (List ℕ)) → IsCore c → AreRead got → RoundEnds (round i c got)
+reached_ends : (i : Insn) (ds : Descs) (c : Core) (got : List (List ℕ)) → AreDescs ds → IsCore c → AreRead got → RoundEnds (reached_round i ds c got)
+reached_ends (insn.Alu op w lock dst src) ds c got d core h = rm_ends _ w c dst got _ core h (λ a rest l k. src_ends _ w c src rest _ core k (λ b more l' k'. alu_ends c core op w dst a b l l'))
+reached_ends (insn.Test w dst src) ds c got d core h = rm_ends _ w c dst got _ core h (λ a rest l k. src_ends _ w c src rest _ core k (λ b more l' k'. (flags_core _ c core, tt, tt)))
+reached_ends (insn.Mov w dst src) ds c got d core h = src_ends _ w c src got _ core h (λ n rest l k. in_well w dst n c c l core)
+reached_ends (insn.Xchg w lock dst r) ds c got d core h = rm_ends _ w c dst got _ core h (λ n rest l k. in_well w dst _ c _ (value_fits w c r core) (set_core w r n c core l))
+reached_ends (insn.Lea w dst m) ds c got d core h = (set_core w dst _ c core (mod_fits w (effective_address c m)), tt, tt)
+reached_ends (insn.Movx signed from to dst src) ds c got d core h = rm_ends _ from c src got _ core h (λ n rest l k. (set_core to dst _ c core (movx_fits c core signed from to n), tt, tt))
+reached_ends (insn.Bswap r) ds c got d core h = (set_core D r _ c core (swapped_fits c core (reg c r)), tt, tt)
+reached_ends (insn.Push src) ds c got d core h = src_ends _ D c src got _ core h (λ n rest l k. pushes_well c core (λ e. Unit {0}) false n tt)
+reached_ends (insn.Pop dst) ds c got d core h = read_ends _ (reg c Esp) D got _ h (λ n rest l k. in_well D dst n _ _ l (address_core Esp _ c core))
+reached_ends insn.Pushad ds c got d core h = (address_core Esp _ c core, word_bytes _, tt)
+reached_ends insn.Popad ds c got d core h = popad_ends c core got h
+reached_ends insn.Pushfd ds c got d core h = pushes_well c core (λ e. Unit {0}) false _ tt
+reached_ends insn.Popfd ds c got d core h = read_ends _ (reg c Esp) D got _ h (λ n rest l k. popfd_ends c core n)
+reached_ends insn.Leave ds c got d core h = read_ends _ (reg c Ebp) D got _ h (λ n rest l k. (set_core D Ebp n _ (address_core Esp _ c core) l, tt, tt))
+reached_ends (insn.Bump up w lock dst) ds c got d core h = rm_ends _ w c dst got _ core h (λ a rest l k. in_well w dst _ c _ (bump_fits up w a) (flags_core _ c core))
+reached_ends (insn.Unary op w lock dst) ds c got d core h = rm_ends _ w c dst got _ core h (λ a rest l k. unary_ends c core op w dst a)
+reached_ends (insn.Mul signed w src) ds c got d core h = rm_ends _ w c src got _ core h (λ b rest l k. mul_ends c core signed w (accumulator w c) b (value_fits w c Eax core) l)
+reached_ends (insn.Div signed w src) ds c got d core h = rm_ends _ w c src got _ core h (λ by rest l k. div_ends c core w _ (div_fits signed w (high_half w c) (accumulator w c) by c.flags l))
+reached_ends (insn.Imul w dst src imm) ds c got d core h = rm_ends _ w c src got _ core h (λ a rest l k. (set_core w dst _ _ (flags_core _ c core) (low_fits true w a _), tt, tt))
+reached_ends (insn.Shift op w dst by) ds c got d core h = rm_ends _ w c dst got _ core h (λ a rest l k. shift_ends c core op w dst a (count_of by c) l)
+reached_ends (insn.Double left dst src by) ds c got d core h = rm_ends _ D c dst got _ core h (λ a rest l k. double_ends c core left dst a (reg c src) (count_of by c) l (reg_fits c src core))
+reached_ends (insn.Bit op w lock dst index) ds c got d core h = rm_ends _ w c dst got _ core h (λ a rest l k. src_ends _ w c index rest _ core k (λ n more l' k'. bit_ends c core op w dst a n l))
+reached_ends (insn.Scan up w dst src) ds c got d core h = rm_ends _ w c src got _ core h (λ a rest l k. scan_ends c core w dst _ _ (scan_fits up w a) (flags_core _ c core))
+reached_ends (insn.Cmpxchg w lock dst src) ds c got d core h = rm_ends _ w c dst got _ core h (λ b rest l k. cmpxchg_ends c core w dst src (accumulator w c) b _ l (flags_core _ c core))
+reached_ends (insn.Xadd w lock dst src) ds c got d core h = rm_ends _ w c dst got _ core h (λ a rest l k. in_well w dst _ c _ (alu_fits Add w a _ c.flags l (value_fits w c src core)) (set_core w src a _ (flags_core _ c core) l))
+reached_ends (insn.Set cond dst) ds c got d core h = in_well B dst _ c c (either_number _ 1 0 (modulus B) (omega arith) (omega arith)) core
+reached_ends (insn.Cmov cond w dst src) ds c got d core h = rm_ends _ w c src got _ core h (λ n rest l k. (either_core _ _ _ (set_core w dst n c core l) core, tt, tt))
+reached_ends (insn.Cbw w) ds c got d core h = (set_core w Eax _ c core (wrapped_fits w _), tt, tt)
+reached_ends (insn.Cwd w) ds c got d core h = (set_core w Edx _ c core (sign_filled_fits c core w _), tt, tt)
+reached_ends (insn.Str op w rep) ds c got d core h = string_ends op w rep c got core h
+reached_ends insn.Xlat ds c got d core h = read_ends _ _ B got _ h (λ n rest l k. (set_core B Eax n c core l, tt, tt))
+reached_ends insn.Lahf ds c got d core h = (set_core B ah _ c core (omega arith), tt, tt)
+reached_ends insn.Sahf ds c got d core h = (flags_core _ c core, tt, tt)
+reached_ends (insn.Flag op) ds c got d core h = (flags_core _ c core, tt, tt)
+reached_ends insn.Nop ds c got d core h = (core, tt, tt)
+reached_ends insn.Pause ds c got d core h = (core, tt, tt)
+reached_ends insn.Endbr ds c got d core h = (core, tt, tt)
+reached_ends (insn.ToGs src) ds c got d core h = rm_ends _ W c src got _ core h (λ selector rest l k. loaded_ends ds selector c d core l)
+reached_ends (insn.FromGs w dst) ds c got d core h = from_gs_ends w dst c core
+reached_ends insn.Int3 ds c got d core h = tt
+reached_ends insn.Hlt ds c got d core h = tt
+reached_ends insn.Ud2 ds c got d core h = tt
+reached_ends (insn.Jump rel) ds c got d core h = tt
+reached_ends (insn.Branch cond rel) ds c got d core h = tt
+reached_ends (insn.Loop kind rel) ds c got d core h = tt
+reached_ends (insn.Call rel) ds c got d core h = tt
+reached_ends (insn.JumpVia src) ds c got d core h = tt
+reached_ends (insn.CallVia src) ds c got d core h = tt
+reached_ends (insn.Ret drop) ds c got d core h = tt
+reached_ends insn.Cpuid ds c got d core h = tt
+reached_ends insn.Int80 ds c got d core h = tt
+
+pub round_ends : (i : Insn) (ds : Descs) (c : Core) (got : List (List ℕ)) → AreDescs ds → IsCore c → AreRead got → RoundEnds (round i ds c got)
 unfolding round
-round_ends (insn.Alu op w lock dst src) c got core h = rm_ends _ w c dst got _ core h (λ a rest l k. src_ends _ w c src rest _ core k (λ b more l' k'. alu_ends c core op w dst a b l l'))
-round_ends (insn.Test w dst src) c got core h = rm_ends _ w c dst got _ core h (λ a rest l k. src_ends _ w c src rest _ core k (λ b more l' k'. (flags_core _ c core, tt, tt)))
-round_ends (insn.Mov w dst src) c got core h = src_ends _ w c src got _ core h (λ n rest l k. in_well w dst n c c l core)
-round_ends (insn.Xchg w lock dst r) c got core h = rm_ends _ w c dst got _ core h (λ n rest l k. in_well w dst _ c _ (value_fits w c r core) (set_core w r n c core l))
-round_ends (insn.Lea w dst m) c got core h = (set_core w dst _ c core (mod_fits w (effective_address c m)), tt, tt)
-round_ends (insn.Movx signed from to dst src) c got core h = rm_ends _ from c src got _ core h (λ n rest l k. (set_core to dst _ c core (movx_fits c core signed from to n), tt, tt))
-round_ends (insn.Bswap r) c got core h = (set_core D r _ c core (swapped_fits c core (reg c r)), tt, tt)
-round_ends (insn.Push src) c got core h = src_ends _ D c src got _ core h (λ n rest l k. pushes_well c core (λ e. Unit {0}) false n tt)
-round_ends (insn.Pop dst) c got core h = read_ends _ (reg c Esp) D got _ h (λ n rest l k. in_well D dst n _ _ l (address_core Esp _ c core))
-round_ends insn.Pushad c got core h = (address_core Esp _ c core, word_bytes _, tt)
-round_ends insn.Popad c got core h = popad_ends c core got h
-round_ends insn.Pushfd c got core h = pushes_well c core (λ e. Unit {0}) false _ tt
-round_ends insn.Popfd c got core h = read_ends _ (reg c Esp) D got _ h (λ n rest l k. popfd_ends c core n)
-round_ends insn.Leave c got core h = read_ends _ (reg c Ebp) D got _ h (λ n rest l k. (set_core D Ebp n _ (address_core Esp _ c core) l, tt, tt))
-round_ends (insn.Bump up w lock dst) c got core h = rm_ends _ w c dst got _ core h (λ a rest l k. in_well w dst _ c _ (bump_fits up w a) (flags_core _ c core))
-round_ends (insn.Unary op w lock dst) c got core h = rm_ends _ w c dst got _ core h (λ a rest l k. unary_ends c core op w dst a)
-round_ends (insn.Mul signed w src) c got core h = rm_ends _ w c src got _ core h (λ b rest l k. mul_ends c core signed w (accumulator w c) b (value_fits w c Eax core) l)
-round_ends (insn.Div signed w src) c got core h = rm_ends _ w c src got _ core h (λ by rest l k. div_ends c core w _ (div_fits signed w (high_half w c) (accumulator w c) by c.flags l))
-round_ends (insn.Imul w dst src imm) c got core h = rm_ends _ w c src got _ core h (λ a rest l k. (set_core w dst _ _ (flags_core _ c core) (low_fits true w a _), tt, tt))
-round_ends (insn.Shift op w dst by) c got core h = rm_ends _ w c dst got _ core h (λ a rest l k. shift_ends c core op w dst a (count_of by c) l)
-round_ends (insn.Double left dst src by) c got core h = rm_ends _ D c dst got _ core h (λ a rest l k. double_ends c core left dst a (reg c src) (count_of by c) l (reg_fits c src core))
-round_ends (insn.Bit op w lock dst index) c got core h = rm_ends _ w c dst got _ core h (λ a rest l k. src_ends _ w c index rest _ core k (λ n more l' k'. bit_ends c core op w dst a n l))
-round_ends (insn.Scan up w dst src) c got core h = rm_ends _ w c src got _ core h (λ a rest l k. scan_ends c core w dst _ _ (scan_fits up w a) (flags_core _ c core))
-round_ends (insn.Cmpxchg w lock dst src) c got core h = rm_ends _ w c dst got _ core h (λ b rest l k. cmpxchg_ends c core w dst src (accumulator w c) b _ l (flags_core _ c core))
-round_ends (insn.Xadd w lock dst src) c got core h = rm_ends _ w c dst got _ core h (λ a rest l k. in_well w dst _ c _ (alu_fits Add w a _ c.flags l (value_fits w c src core)) (set_core w src a _ (flags_core _ c core) l))
-round_ends (insn.Set cond dst) c got core h = in_well B dst _ c c (either_number _ 1 0 (modulus B) (omega arith) (omega arith)) core
-round_ends (insn.Cmov cond w dst src) c got core h = rm_ends _ w c src got _ core h (λ n rest l k. (either_core _ _ _ (set_core w dst n c core l) core, tt, tt))
-round_ends (insn.Cbw w) c got core h = (set_core w Eax _ c core (wrapped_fits w _), tt, tt)
-round_ends (insn.Cwd w) c got core h = (set_core w Edx _ c core (sign_filled_fits c core w _), tt, tt)
-round_ends (insn.Str op w rep) c got core h = string_ends op w rep c got core h
-round_ends insn.Xlat c got core h = read_ends _ _ B got _ h (λ n rest l k. (set_core B Eax n c core l, tt, tt))
-round_ends insn.Lahf c got core h = (set_core B ah _ c core (omega arith), tt, tt)
-round_ends insn.Sahf c got core h = (flags_core _ c core, tt, tt)
-round_ends (insn.Flag op) c got core h = (flags_core _ c core, tt, tt)
-round_ends insn.Nop c got core h = (core, tt, tt)
-round_ends insn.Pause c got core h = (core, tt, tt)
-round_ends insn.Endbr c got core h = (core, tt, tt)
-round_ends insn.Int3 c got core h = tt
-round_ends insn.Hlt c got core h = tt
-round_ends insn.Ud2 c got core h = tt
-round_ends (insn.Jump rel) c got core h = tt
-round_ends (insn.Branch cond rel) c got core h = tt
-round_ends (insn.Loop kind rel) c got core h = tt
-round_ends (insn.Call rel) c got core h = tt
-round_ends (insn.JumpVia src) c got core h = tt
-round_ends (insn.CallVia src) c got core h = tt
-round_ends (insn.Ret drop) c got core h = tt
-round_ends insn.Int80 c got core h = tt
+round_ends i ds c got d core h = unless_beyond_ends (λ e. Unit {0}) (stands_beyond i c got) (reached_round i ds c got) (reached_ends i ds c got d core h)
 
 -- ---- the table of transfers
 
@@ -232,13 +272,16 @@ loop_core_is loop.Ecxz c h = h
 target_fits : (next rel : ℕ) → target_of next rel < 2 ^ 32
 target_fits next rel = omega arith
 
+reached_hop_ends : (next : ℕ) (i : Insn) (c : Core) (got : List (List ℕ)) → next < 2 ^ 32 → IsCore c → AreRead got → HopEnds (reached_hop next i c got)
+reached_hop_ends next (insn.Jump rel) c got low core h = (core, tt, target_fits next rel)
+reached_hop_ends next (insn.Branch cond rel) c got low core h = (core, tt, either_number _ _ next (2 ^ 32) (target_fits next rel) low)
+reached_hop_ends next (insn.Loop kind rel) c got low core h = (loop_core_is kind c core, tt, either_number _ _ next (2 ^ 32) (target_fits next rel) low)
+reached_hop_ends next (insn.Call rel) c got low core h = pushes_well c core (λ to. to < 2 ^ 32) (target_of next rel) next (target_fits next rel)
+reached_hop_ends next (insn.CallVia src) c got low core h = rm_ends (λ to. to < 2 ^ 32) D c src got _ core h (λ to rest l k. pushes_well c core (λ to. to < 2 ^ 32) to next l)
+reached_hop_ends next (insn.JumpVia src) c got low core h = rm_ends (λ to. to < 2 ^ 32) D c src got _ core h (λ to rest l k. (core, tt, l))
+reached_hop_ends next (insn.Ret drop) c got low core h = read_ends (λ to. to < 2 ^ 32) (reg c Esp) D got _ h (λ to rest l k. (address_core Esp _ c core, tt, l))
+reached_hop_ends next _ c got low core h = tt
+
 pub hop_ends : (next : ℕ) (i : Insn) (c : Core) (got : List (List ℕ)) → next < 2 ^ 32 → IsCore c → AreRead got → HopEnds (hop next i c got)
 unfolding hop
-hop_ends next (insn.Jump rel) c got low core h = (core, tt, target_fits next rel)
-hop_ends next (insn.Branch cond rel) c got low core h = (core, tt, either_number _ _ next (2 ^ 32) (target_fits next rel) low)
-hop_ends next (insn.Loop kind rel) c got low core h = (loop_core_is kind c core, tt, either_number _ _ next (2 ^ 32) (target_fits next rel) low)
-hop_ends next (insn.Call rel) c got low core h = pushes_well c core (λ to. to < 2 ^ 32) (target_of next rel) next (target_fits next rel)
-hop_ends next (insn.CallVia src) c got low core h = rm_ends (λ to. to < 2 ^ 32) D c src got _ core h (λ to rest l k. pushes_well c core (λ to. to < 2 ^ 32) to next l)
-hop_ends next (insn.JumpVia src) c got low core h = rm_ends (λ to. to < 2 ^ 32) D c src got _ core h (λ to rest l k. (core, tt, l))
-hop_ends next (insn.Ret drop) c got low core h = read_ends (λ to. to < 2 ^ 32) (reg c Esp) D got _ h (λ to rest l k. (address_core Esp _ c core, tt, l))
-hop_ends next _ c got low core h = tt
+hop_ends next i c got low core h = unless_beyond_ends (λ to. to < 2 ^ 32) (stands_beyond i c got) (reached_hop next i c got) (reached_hop_ends next i c got low core h)

@@ -34,7 +34,7 @@ use Rattle.x86_insn.specs.Moves.{pushes, risen, popfd_end}
 use Rattle.x86_insn.specs.Transfers.{loop_core, loop_jumps}
 use Rattle.x86_insn.specs.State.{IsCore, State, Next}
 use Rattle.x86_insn.specs.Round.{round, limit, hop}
-use Rattle.x86_insn.specs.Step.{Found, fetch, Ended, turn, step}
+use Rattle.x86_insn.specs.Step.{Found, fetch, Ended, turn, is_cpuid, step}
 use Rattle.step_laws.specs.Passes.{Passes}
 use Rattle.step_laws.specs.Standing.{Stands, Holds}
 use Rattle.step_laws.specs.Keeping.{KeepsRest}
@@ -83,13 +83,15 @@ abbrev is_plain : Flow → Bool
 is_plain flow.Plain = true
 is_plain _ = false
 
--- no transfer, no system call, no trap and no string instruction
+-- no transfer, no system call, no trap, no string instruction and not CPUID
 abbrev pub is_simple : Insn → Bool
 is_simple (insn.Str op w rep) = false
+is_simple insn.Cpuid = false
 is_simple i = is_plain (flow_of i)
 
 simple_plain : (i : Insn) → is_simple i ≡ true → flow_of i ≡ flow.Plain
 simple_plain (insn.Str op w rep) h = refl
+simple_plain insn.Cpuid h = refl
 simple_plain i h = go (flow_of i) h
   where
     go : (f : Flow) → is_plain f ≡ true → f ≡ flow.Plain
@@ -100,6 +102,14 @@ simple_once : (i : Insn) (c : Core) → is_simple i ≡ true → limit i c ≡ 1
 unfolding limit
 simple_once (insn.Str op w rep) c h = absurd (true≢false (sym h))
 simple_once _ c h = refl
+
+simple_rounds : (i : Insn) → is_simple i ≡ true → is_cpuid i ≡ false
+simple_rounds insn.Cpuid h = absurd (true≢false (sym h))
+simple_rounds _ h = refl
+
+-- memory that is not relative to GS
+abbrev pub flat : Option Reg → Option (Reg × ℕ) → ℕ → Mem
+flat b f d = record { base = b; index = f; disp = d; gs = false }
 
 module _ (g : Setting) where
   code_split : (e : ℕ) (x : List ℕ) (xs : List (List ℕ)) → Stands g.start.memory e (x ++ concat xs) → ((k : ℕ) → k < length (x ++ concat xs) → g.scratch (e + k) ≡ false) → Code g (e + length x) xs
@@ -125,7 +135,7 @@ module _ (g : Setting) where
   -- ---- a state of the run
 
   pub keeps_rest : (c : Core) (e : ℕ) (log : Log) → may_all g.may log ≡ true → KeepsRest g.scratch g.start (on g c e log)
-  keeps_rest c e log ok = record { calls = refl; answers = refl; memory = stored_keeps g.at g.may g.scratch g.start.memory g.places log ok }
+  keeps_rest c e log ok = record { descs = refl; calls = refl; answers = refl; memory = stored_keeps g.at g.may g.scratch g.start.memory g.places log ok }
 
   pub fetched_on : (log : Log) {e : ℕ} {x : List ℕ} {i : Insn} {xs : List (List ℕ)} → Spelled x i → may_all g.may log ≡ true → Code g e (x ∷ xs) → fetch (memory_of g log) e ≡ Found i (length x)
   fetched_on log {e} {x} {i} {xs} s ok code =
@@ -146,33 +156,33 @@ module _ (g : Setting) where
 
   -- one turn, where the code goes on behind it
   pub plain : {n : ℕ} {c c' : Core} {e : ℕ} {log log' : Log} {t : State} {x : List ℕ} {i : Insn} {xs : List (List ℕ)} → Spelled x i → is_simple i ≡ true
-      → turn (memory_of g log) (round i c) ≡ Ended c' (memory_of g log') false → may_all g.may log ≡ true → Code g e (x ∷ xs)
+      → turn (memory_of g log) (round i g.start.descs c) ≡ Ended c' (memory_of g log') false → may_all g.may log ≡ true → Code g e (x ∷ xs)
       → (Code g (e + length x) xs → Comes g n c' (e + length x) log' t) → Comes g (suc n) c e log t
   plain {c = c} {c' = c'} {e = e} {log = log} {log' = log'} {x = x} {i = i} s simple ends ok code rest =
       next_on ok
-      (runs g.start c e (memory_of g log) i (length x) (fetched_on log s ok code) (simple_plain i simple) (simple_once i c simple) c' (memory_of g log') ends
+      (runs g.start c e (memory_of g log) i (length x) (fetched_on log s ok code) (simple_plain i simple) (simple_rounds i simple) (simple_once i c simple) c' (memory_of g log') ends
       ∙ ap (λ a. Next (moved g.start c' a (memory_of g log'))) (code_low code))
       (rest (code_rest code))
 
   -- no access
   pub quiet : {n : ℕ} {c c' : Core} {e : ℕ} {log : Log} {t : State} {x : List ℕ} {i : Insn} {xs : List (List ℕ)} → Spelled x i → is_simple i ≡ true
-      → round i c [] ≡ Ends c' None false → may_all g.may log ≡ true → Code g e (x ∷ xs)
+      → round i g.start.descs c [] ≡ Ends c' None false → may_all g.may log ≡ true → Code g e (x ∷ xs)
       → (Code g (e + length x) xs → Comes g n c' (e + length x) log t) → Comes g (suc n) c e log t
-  quiet {c = c} {c' = c'} {log = log} {i = i} s simple ask ok code rest = plain s simple (turn_ends (memory_of g log) (round i c) c' false ask) ok code rest
+  quiet {c = c} {c' = c'} {log = log} {i = i} s simple ask ok code rest = plain s simple (turn_ends (memory_of g log) (round i g.start.descs c) c' false ask) ok code rest
 
   -- a write of a word at a numbered place
   pub write : (j v : ℕ) {n : ℕ} {c c' : Core} {e a : ℕ} {log : Log} {t : State} {x : List ℕ} {i : Insn} {xs : List (List ℕ)} → Spelled x i → is_simple i ≡ true
-      → round i c [] ≡ Ends c' (Some (a, bytes_of D v)) false → a ≡ g.at j → g.may j ≡ true → may_all g.may log ≡ true → Code g e (x ∷ xs)
+      → round i g.start.descs c [] ≡ Ends c' (Some (a, bytes_of D v)) false → a ≡ g.at j → g.may j ≡ true → may_all g.may log ≡ true → Code g e (x ∷ xs)
       → (Code g (e + length x) xs → Comes g n c' (e + length x) ((j, v) ∷ log) t) → Comes g (suc n) c e log t
   unfolding stored word
   write j v {c = c} {c' = c'} {log = log} {i = i} s simple ask place free ok code rest =
       plain s simple
-      (turn_writes (memory_of g log) (round i c) c' (g.at j) (bytes_of D v) false (ask ∙ ap (λ (b : ℕ). Ends c' (Some (b, bytes_of D v)) false) place) (stored_free g.at g.may g.scratch g.start.memory g.places log j ok free))
+      (turn_writes (memory_of g log) (round i g.start.descs c) c' (g.at j) (bytes_of D v) false (ask ∙ ap (λ (b : ℕ). Ends c' (Some (b, bytes_of D v)) false) place) (stored_free g.at g.may g.scratch g.start.memory g.places log j ok free))
       ok code rest
 
   -- a push, where the word below ESP is a numbered place
   pub push : (j v : ℕ) {n : ℕ} {c : Core} {e : ℕ} {log : Log} {t : State} {x : List ℕ} {i : Insn} {xs : List (List ℕ)} → Spelled x i → is_simple i ≡ true
-      → round i c [] ≡ pushes false v c → address_before (reg c Esp) 4 ≡ g.at j → g.may j ≡ true → may_all g.may log ≡ true → Code g e (x ∷ xs)
+      → round i g.start.descs c [] ≡ pushes false v c → address_before (reg c Esp) 4 ≡ g.at j → g.may j ≡ true → may_all g.may log ≡ true → Code g e (x ∷ xs)
       → (Code g (e + length x) xs → Comes g n (set_reg D Esp (g.at j) c) (e + length x) ((j, v) ∷ log) t) → Comes g (suc n) c e log t
   push j v {c = c} s simple ask place free ok code rest =
       write j v s simple (ask ∙ ap (λ (b : ℕ). Ends (set_reg D Esp b c) (Some (address_before (reg c Esp) 4, bytes_of D v)) false) place) place free ok code rest
@@ -264,25 +274,25 @@ module _ (g : Setting) where
 
   -- a read of a word, by which the core goes on
   pub read : (a v : ℕ) (make : ℕ → Core) {n : ℕ} {c : Core} {e b : ℕ} {log : Log} {t : State} {x : List ℕ} {i : Insn} {xs : List (List ℕ)} → Spelled x i → is_simple i ≡ true
-      → round i c [] ≡ Reads b 4 → b ≡ a → ((bytes : List ℕ) → round i c (bytes ∷ []) ≡ Ends (make (little_number 4 bytes)) None false) → Word log a v
+      → round i g.start.descs c [] ≡ Reads b 4 → b ≡ a → ((bytes : List ℕ) → round i g.start.descs c (bytes ∷ []) ≡ Ends (make (little_number 4 bytes)) None false) → Word log a v
       → may_all g.may log ≡ true → Code g e (x ∷ xs)
       → (Code g (e + length x) xs → Comes g n (make v) (e + length x) log t) → Comes g (suc n) c e log t
   read a v make {c = c} {log = log} {i = i} s simple ask place core w ok code rest =
       plain s simple
-      (turn_reads (memory_of g log) (round i c) a 4 (make v) false (ask ∙ ap (λ (b : ℕ). Reads b 4) place) w.mapped
+      (turn_reads (memory_of g log) (round i g.start.descs c) a 4 (make v) false (ask ∙ ap (λ (b : ℕ). Reads b 4) place) w.mapped
       (core (bytes_at (memory_of g log) a 4) ∙ ap (λ (k : ℕ). Ends (make k) None false) w.value))
       ok code rest
 
   -- a register from memory
-  pub load : (a v : ℕ) {n : ℕ} {c : Core} {e : ℕ} {log : Log} {t : State} {x : List ℕ} {r : Reg} {m : Mem} {xs : List (List ℕ)} → Spelled x (insn.Mov D (rm.R r) (src.M m))
-      → effective_address c m ≡ a → Word log a v → may_all g.may log ≡ true → Code g e (x ∷ xs)
+  pub load : (a v : ℕ) {n : ℕ} {c : Core} {e : ℕ} {log : Log} {t : State} {x : List ℕ} {r : Reg} {b : Option Reg} {f : Option (Reg × ℕ)} {d : ℕ} {xs : List (List ℕ)} → Spelled x (insn.Mov D (rm.R r) (src.M (flat b f d)))
+      → effective_address c (flat b f d) ≡ a → Word log a v → may_all g.may log ≡ true → Code g e (x ∷ xs)
       → (Code g (e + length x) xs → Comes g n (set_reg D r v c) (e + length x) log t) → Comes g (suc n) c e log t
   unfolding round got_src got_at
   load a v {c = c} {r = r} s place w ok code rest = read a v (λ (n : ℕ). set_reg D r n c) s refl refl place (λ bytes. refl) w ok code rest
 
   -- a register to a numbered place
-  pub store : (j : ℕ) {n : ℕ} {c : Core} {e : ℕ} {log : Log} {t : State} {x : List ℕ} {r : Reg} {m : Mem} {xs : List (List ℕ)} → Spelled x (insn.Mov D (rm.M m) (src.R r))
-      → effective_address c m ≡ g.at j → g.may j ≡ true → may_all g.may log ≡ true → Code g e (x ∷ xs)
+  pub store : (j : ℕ) {n : ℕ} {c : Core} {e : ℕ} {log : Log} {t : State} {x : List ℕ} {r : Reg} {b : Option Reg} {f : Option (Reg × ℕ)} {d : ℕ} {xs : List (List ℕ)} → Spelled x (insn.Mov D (rm.M (flat b f d)) (src.R r))
+      → effective_address c (flat b f d) ≡ g.at j → g.may j ≡ true → may_all g.may log ≡ true → Code g e (x ∷ xs)
       → (Code g (e + length x) xs → Comes g n c (e + length x) ((j, reg c r) ∷ log) t) → Comes g (suc n) c e log t
   unfolding round got_src
   store j {c = c} {r = r} s place free ok code rest = write j (reg c r) s refl refl place free ok code rest
@@ -306,18 +316,18 @@ module _ (g : Setting) where
       let w = written j (flag_image f) new (image_low f) free ok in
       let up : address_after (reg c Esp) 4 ≡ g.at k = ap (λ (b : ℕ). address_after b 4) here ∙ above in
       plain s refl
-      (turn_reads (memory_of g log) (round insn.Popfd c) (g.at j) 4 (set_flags f (set_reg D Esp (g.at k) c)) false (ap (λ (b : ℕ). Reads b 4) here) w.mapped
+      (turn_reads (memory_of g log) (round insn.Popfd g.start.descs c) (g.at j) 4 (set_flags f (set_reg D Esp (g.at k) c)) false (ap (λ (b : ℕ). Reads b 4) here) w.mapped
       (ap (λ (m : ℕ). popfd_end m c) w.value ∙ image_back f c ∙ ap (λ (b : ℕ). Ends (set_flags f (set_reg D Esp b c)) None false) up))
       ok code rest
 
   -- a pop into a word at a numbered place
-  pub pop_to : (j v : ℕ) {n : ℕ} {c : Core} {e : ℕ} {log : Log} {t : State} {x : List ℕ} {m : Mem} {xs : List (List ℕ)} → Spelled x (insn.Pop (rm.M m))
-      → effective_address (risen 4 c) m ≡ g.at j → Word log (reg c Esp) v → g.may j ≡ true → may_all g.may log ≡ true → Code g e (x ∷ xs)
+  pub pop_to : (j v : ℕ) {n : ℕ} {c : Core} {e : ℕ} {log : Log} {t : State} {x : List ℕ} {b : Option Reg} {f : Option (Reg × ℕ)} {d : ℕ} {xs : List (List ℕ)} → Spelled x (insn.Pop (rm.M (flat b f d)))
+      → effective_address (risen 4 c) (flat b f d) ≡ g.at j → Word log (reg c Esp) v → g.may j ≡ true → may_all g.may log ≡ true → Code g e (x ∷ xs)
       → (Code g (e + length x) xs → Comes g n (risen 4 c) (e + length x) ((j, v) ∷ log) t) → Comes g (suc n) c e log t
   unfolding round got_at stored word
-  pop_to j v {c = c} {log = log} {m = m} s place w free ok code rest =
+  pop_to j v {c = c} {log = log} {b = b} {f = f} {d = d} s place w free ok code rest =
       plain s refl
-      (turn_moves (memory_of g log) (round (insn.Pop (rm.M m)) c) (reg c Esp) 4 (risen 4 c) (g.at j) (bytes_of D v) false refl w.mapped
+      (turn_moves (memory_of g log) (round (insn.Pop (rm.M (flat b f d))) g.start.descs c) (reg c Esp) 4 (risen 4 c) (g.at j) (bytes_of D v) false refl w.mapped
       (ap (λ (b : ℕ). Ends (risen 4 c) (Some (b, bytes_of D (little_number 4 (bytes_at (memory_of g log) (reg c Esp) 4)))) false) place
       ∙ ap (λ (b : ℕ). Ends (risen 4 c) (Some (g.at j, bytes_of D b)) false) w.value)
       (stored_free g.at g.may g.scratch g.start.memory g.places log j ok free))
@@ -370,25 +380,25 @@ module _ (g : Setting) where
       transfer s refl (ap (λ (b : Bool). Ends (loop_core kind c) None (if b then address_after (e + length x) rel else e + length x)) fails) ok code (rest (code_rest code))
 
   -- a jump through a word of memory
-  pub via : (a v : ℕ) {n : ℕ} {c : Core} {e : ℕ} {log : Log} {t : State} {x : List ℕ} {m : Mem} {xs : List (List ℕ)} → Spelled x (insn.JumpVia (rm.M m))
-      → effective_address c m ≡ a → Word log a v → may_all g.may log ≡ true → Code g e (x ∷ xs) → Comes g n c v log t → Comes g (suc n) c e log t
+  pub via : (a v : ℕ) {n : ℕ} {c : Core} {e : ℕ} {log : Log} {t : State} {x : List ℕ} {b : Option Reg} {f : Option (Reg × ℕ)} {d : ℕ} {xs : List (List ℕ)} → Spelled x (insn.JumpVia (rm.M (flat b f d)))
+      → effective_address c (flat b f d) ≡ a → Word log a v → may_all g.may log ≡ true → Code g e (x ∷ xs) → Comes g n c v log t → Comes g (suc n) c e log t
   unfolding hop got_rm got_at
-  via a v {c = c} {e = e} {log = log} {x = x} {m = m} s place w ok code rest =
+  via a v {c = c} {e = e} {log = log} {x = x} {b = b} {f = f} {d = d} s place w ok code rest =
       next_on ok
-      (goes g.start c e (memory_of g log) (insn.JumpVia (rm.M m)) (length x) (fetched_on log s ok code) refl c (memory_of g log) v
-      (turn_reads (memory_of g log) (hop (address_after e (length x)) (insn.JumpVia (rm.M m)) c) a 4 c v (ap (λ (b : ℕ). Reads b 4) place) w.mapped
+      (goes g.start c e (memory_of g log) (insn.JumpVia (rm.M (flat b f d))) (length x) (fetched_on log s ok code) refl c (memory_of g log) v
+      (turn_reads (memory_of g log) (hop (address_after e (length x)) (insn.JumpVia (rm.M (flat b f d))) c) a 4 c v (ap (λ (b : ℕ). Reads b 4) place) w.mapped
       (ap (λ (b : ℕ). Ends c None b) w.value)))
       rest
 
 -- the effective address of an operand that is a displacement alone: it has neither base nor index
-pub absolute : (n : ℕ) → n < 2 ^ 32 → (0 + 0 + n) % 2 ^ 32 ≡ n
+pub absolute : (n : ℕ) → n < 2 ^ 32 → (0 + 0 + 0 + n) % 2 ^ 32 ≡ n
 absolute n low = omega arith
 
 -- ---- the first state
 
--- a core of eight registers and flags
-abbrev pub core_of : ℕ → ℕ → ℕ → ℕ → ℕ → ℕ → ℕ → ℕ → Flags → Core
-core_of eax ecx edx ebx esp ebp esi edi f = record { regs = eax ∷ ecx ∷ edx ∷ ebx ∷ esp ∷ ebp ∷ esi ∷ edi ∷ []; flags = f }
+-- a core of eight registers and flags, and of GS with a base or without one
+abbrev pub core_of : ℕ → ℕ → ℕ → ℕ → ℕ → ℕ → ℕ → ℕ → Flags → ℕ → Option ℕ → Core
+core_of eax ecx edx ebx esp ebp esi edi f gs base = record { regs = eax ∷ ecx ∷ edx ∷ ebx ∷ esp ∷ ebp ∷ esi ∷ edi ∷ []; flags = f; gs = gs; gs_base = base }
 
 eight : (rs : List ℕ) → length rs ≡ 8 → slice_index rs 0 ∷ slice_index rs 1 ∷ slice_index rs 2 ∷ slice_index rs 3 ∷ slice_index rs 4 ∷ slice_index rs 5 ∷ slice_index rs 6 ∷ slice_index rs 7 ∷ [] ≡ rs
 eight (a ∷ b ∷ c ∷ d ∷ e ∷ f ∷ g ∷ h ∷ []) l = refl
@@ -402,12 +412,12 @@ eight (a ∷ b ∷ c ∷ d ∷ e ∷ f ∷ []) l = absurd (omega arith)
 eight (a ∷ b ∷ c ∷ d ∷ e ∷ f ∷ g ∷ []) l = absurd (omega arith)
 eight (a ∷ b ∷ c ∷ d ∷ e ∷ f ∷ g ∷ h ∷ i ∷ rest) l = absurd (omega arith)
 
-pub whole_core : (c : Core) → IsCore c → core_of (slice_index c.regs 0) (slice_index c.regs 1) (slice_index c.regs 2) (slice_index c.regs 3) (slice_index c.regs 4) (slice_index c.regs 5) (slice_index c.regs 6) (slice_index c.regs 7) c.flags ≡ c
-whole_core c h = λ t. record { regs = eight c.regs h.eight t; flags = c.flags }
+pub whole_core : (c : Core) → IsCore c → core_of (slice_index c.regs 0) (slice_index c.regs 1) (slice_index c.regs 2) (slice_index c.regs 3) (slice_index c.regs 4) (slice_index c.regs 5) (slice_index c.regs 6) (slice_index c.regs 7) c.flags c.gs c.gs_base ≡ c
+whole_core c h = λ t. record { regs = eight c.regs h.eight t; flags = c.flags; gs = c.gs; gs_base = c.gs_base }
 
 -- a run from its first state on
 pub from_start : (g : Setting) (n : ℕ) (c : Core) (e : ℕ) (t : State) → c ≡ g.start.core → g.start.eip ≡ e → Comes g n c e [] t → Passes (KeepsRest g.scratch g.start) n g.start t
 unfolding stored
 from_start g n c e t core place h =
-    let same : on g c e [] ≡ g.start = λ i. record { core = core i; eip = sym place i; memory = g.start.memory; answers = g.start.answers; calls = g.start.calls } in
+    let same : on g c e [] ≡ g.start = λ i. record { core = core i; descs = g.start.descs; eip = sym place i; memory = g.start.memory; answers = g.start.answers; calls = g.start.calls } in
     subst (λ s. Passes (KeepsRest g.scratch g.start) n s t) same h.passes

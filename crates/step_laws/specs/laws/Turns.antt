@@ -2,6 +2,7 @@
 use Rattle.std.proofs.Common.{◌≡◌, ℕ, Bool, true, false, List, [], ◌∷◌, length, Some, None, refl, sym, ap, ◌∙◌}
 use Rattle.std.proofs.lemmas.Bool.{true≢false}
 use Rattle.mv_base.specs.Memory.{Memory, read_fault, write_fault, bytes_at, put, address_after}
+use Rattle.mv_base.specs.Effects.{Descs}
 use Rattle.x86_insn.specs.declared.insn.Insn.{Insn}
 use Rattle.x86_insn.specs.declared.insn.Flow.{Flow}
 use Rattle.x86_insn.specs.declared.insn.Flow.TheVariants as flow
@@ -14,7 +15,7 @@ use Rattle.x86_insn.specs.declared.ask.Ask.{Ask}
 use Rattle.x86_insn.specs.declared.ask.Ask.TheVariants.{Reads, Halts, Ends}
 use Rattle.x86_insn.specs.State.{State, Next, Stopped}
 use Rattle.x86_insn.specs.Round.{round, limit, hop}
-use Rattle.x86_insn.specs.Step.{Found, fetch, Ended, Halted, unless_fault, answered, asks, turn, after_turn, rounds, after_rounds, after_hop, executed, stepped, step}
+use Rattle.x86_insn.specs.Step.{Found, fetch, Ended, Halted, unless_fault, answered, asks, turn, after_turn, rounds, after_rounds, after_hop, is_cpuid, plainly, executed, stepped, step}
 
 -- a state with another core, instruction pointer and memory
 abbrev pub moved : State → Core → ℕ → Memory → State
@@ -81,23 +82,26 @@ pub fetched_step : (s : State) (i : Insn) (n : ℕ) → fetch s.memory s.eip ≡
 unfolding step
 fetched_step s i n e = ap (stepped s) e
 
-pub one_round : (i : Insn) (c : Core) (m : Memory) → rounds 1 i c m ≡ after_turn (turn m (round i c)) c m (rounds 0 i)
+pub one_round : (i : Insn) (ds : Descs) (c : Core) (m : Memory) → rounds 1 i ds c m ≡ after_turn (turn m (round i ds c)) c m (rounds 0 i ds)
 unfolding rounds
-one_round i c m = refl
+one_round i ds c m = refl
 
 module _ (s : State) (c : Core) (e : ℕ) (m : Memory) (i : Insn) (n : ℕ) (there : fetch m e ≡ Found i n) where
   by_flow : (f : Flow) → flow_of i ≡ f → step (moved s c e m) ≡ executed (moved s c e m) i (address_after e n) f
   by_flow f h = fetched_step (moved s c e m) i n there ∙ ap (executed (moved s c e m) i (address_after e n)) h
 
-  once : limit i c ≡ 1 → after_rounds (moved s c e m) (address_after e n) (rounds (limit i c) i c m) ≡ after_rounds (moved s c e m) (address_after e n) (after_turn (turn m (round i c)) c m (rounds 0 i))
-  once h = ap (λ k. after_rounds (moved s c e m) (address_after e n) (rounds k i c m)) h ∙ ap (after_rounds (moved s c e m) (address_after e n)) (one_round i c m)
+  by_rounds : is_cpuid i ≡ false → executed (moved s c e m) i (address_after e n) flow.Plain ≡ after_rounds (moved s c e m) (address_after e n) (rounds (limit i c) i s.descs c m)
+  by_rounds h = ap (λ t. plainly t (moved s c e m) i (address_after e n)) h
+
+  once : limit i c ≡ 1 → after_rounds (moved s c e m) (address_after e n) (rounds (limit i c) i s.descs c m) ≡ after_rounds (moved s c e m) (address_after e n) (after_turn (turn m (round i s.descs c)) c m (rounds 0 i s.descs))
+  once h = ap (λ k. after_rounds (moved s c e m) (address_after e n) (rounds k i s.descs c m)) h ∙ ap (after_rounds (moved s c e m) (address_after e n)) (one_round i s.descs c m)
 
   -- an instruction that is no transfer, of one round: it completes, or stops
-  pub runs : flow_of i ≡ flow.Plain → limit i c ≡ 1 → (c' : Core) (m' : Memory) → turn m (round i c) ≡ Ended c' m' false → step (moved s c e m) ≡ Next (moved s c' (address_after e n) m')
-  runs f l c' m' h = by_flow flow.Plain f ∙ once l ∙ ap (λ t. after_rounds (moved s c e m) (address_after e n) (after_turn t c m (rounds 0 i))) h
+  pub runs : flow_of i ≡ flow.Plain → is_cpuid i ≡ false → limit i c ≡ 1 → (c' : Core) (m' : Memory) → turn m (round i s.descs c) ≡ Ended c' m' false → step (moved s c e m) ≡ Next (moved s c' (address_after e n) m')
+  runs f k l c' m' h = by_flow flow.Plain f ∙ by_rounds k ∙ once l ∙ ap (λ t. after_rounds (moved s c e m) (address_after e n) (after_turn t c m (rounds 0 i s.descs))) h
 
-  pub halts : flow_of i ≡ flow.Plain → limit i c ≡ 1 → (why : Stop) → turn m (round i c) ≡ Halted why → step (moved s c e m) ≡ Stopped why (moved s c e m)
-  halts f l why h = by_flow flow.Plain f ∙ once l ∙ ap (λ t. after_rounds (moved s c e m) (address_after e n) (after_turn t c m (rounds 0 i))) h
+  pub halts : flow_of i ≡ flow.Plain → is_cpuid i ≡ false → limit i c ≡ 1 → (why : Stop) → turn m (round i s.descs c) ≡ Halted why → step (moved s c e m) ≡ Stopped why (moved s c e m)
+  halts f k l why h = by_flow flow.Plain f ∙ by_rounds k ∙ once l ∙ ap (λ t. after_rounds (moved s c e m) (address_after e n) (after_turn t c m (rounds 0 i s.descs))) h
 
   by_hop : (f : Flow) → is_transfer f ≡ true → executed (moved s c e m) i (address_after e n) f ≡ after_hop (moved s c e m) (turn m (hop (address_after e n) i c))
   by_hop flow.Plain h = absurd (true≢false (sym h))
