@@ -12,7 +12,8 @@ import collections, os, random, re, struct, subprocess, sys, tempfile
 
 from oracles import small_image
 
-SEGMENTS, REPEATS, WORD = (0x26, 0x2E, 0x36, 0x3E), (0xF0, 0xF2, 0xF3), 0x66
+GS, WORD = 0x65, 0x66
+SEGMENTS, REPEATS = (0x26, 0x2E, 0x36, 0x3E, GS), (0xF0, 0xF2, 0xF3)
 PREFIXES = SEGMENTS + REPEATS + (WORD,)
 SLOT, LONGEST, SHOWN = 32, 15, 40
 FIRST, SEGMENTS_EACH, PAGE = 0x08048054, 61, 4096
@@ -20,14 +21,16 @@ IMMEDIATES = {"": (0, 0), "ib": (1, 1), "iw": (2, 2), "id": (4, 4), "iz": (4, 2)
 
 
 class Row:
-    """Opcode bytes; `modrm` is None, "r" or the digit of ModRM's reg field; `mode` says which operands ModRM may name."""
+    """Opcode bytes; `modrm` is None, "r" or the digit of ModRM's reg field; `mode` says which operands ModRM may name; `gs`
+    whether it accesses an operand that GS's base can be added to."""
 
-    def __init__(self, opcode, modrm=None, imm="", v=False, lock=False, rep="", mode="any"):
+    def __init__(self, opcode, modrm=None, imm="", v=False, lock=False, rep="", mode="any", gs=None):
         self.opcode, self.modrm, self.imm = bytes(opcode), modrm, IMMEDIATES[imm]
         self.v, self.lock, self.rep, self.mode = v, lock, rep, mode
+        self.gs = modrm is not None if gs is None else gs
 
     def takes(self, prefixes):
-        return ((WORD not in prefixes or self.v) and (0xF0 not in prefixes or self.lock)
+        return ((WORD not in prefixes or self.v) and (0xF0 not in prefixes or self.lock) and (GS not in prefixes or self.gs)
                 and (0xF2 not in prefixes or self.rep == "repe")
                 and (0xF3 in prefixes if self.rep == "must" else 0xF3 not in prefixes or self.rep != ""))
 
@@ -44,7 +47,7 @@ class Row:
         mod, reg, rm = rest[op] >> 6, rest[op] >> 3 & 7, rest[op] & 7
         memory = mod != 3
         if self.modrm not in ("r", reg) or {"any": False, "mem": not memory, "reg": memory}[self.mode] or (
-                0xF0 in prefixes and not memory):
+                prefixes & {0xF0, GS} and not memory):
             return None
         length, base = op + 1, rm
         if memory and rm == 4:
@@ -86,13 +89,14 @@ def table():
     pair(0x84, modrm="r"), row(0xA8, imm="ib"), row(0xA9, imm="iz", v=True)
     row(0xF6, modrm=0, imm="ib"), row(0xF7, modrm=0, imm="iz", v=True)
     pair(0x86, modrm="r", lock=True), pair(0x88, modrm="r"), pair(0x8A, modrm="r")
-    row(0x8D, modrm="r", v=True, mode="mem"), row(0x8F, modrm=0)
+    row(0x8D, modrm="r", v=True, mode="mem", gs=False), row(0x8F, modrm=0)
     row(0x90, v=True), row(0x90, rep="must"), row(0x98, v=True), row(0x99, v=True)
     for opcode in (0x9C, 0x9D, 0x9E, 0x9F, 0xC9, 0xCC, 0xD7, 0xF4, 0xF5, 0xF8, 0xF9, 0xFC, 0xFD):
         row(opcode)
     for opcode, rep in ((0xA4, "rep"), (0xA6, "repe"), (0xAA, "rep"), (0xAC, "rep"), (0xAE, "repe")):
         pair(opcode, rep=rep)
-    pair(0xA0, imm="id"), pair(0xA2, imm="id")
+    pair(0xA0, imm="id", gs=True), pair(0xA2, imm="id", gs=True)
+    row(0x8C, modrm=5, v=True), row(0x8E, modrm=5, v=True), row(0x0F, 0xA2)
     row(0xC2, imm="iw", rep="ret"), row(0xC3, rep="ret")
     row(0xC6, modrm=0, imm="ib"), row(0xC7, modrm=0, imm="iz", v=True), row(0xCD, 0x80)
     for opcode in (0xE0, 0xE1, 0xE2, 0xE3, 0xEB):
@@ -102,7 +106,7 @@ def table():
         pair(0xF6, modrm=digit, lock=digit < 4)
     pair(0xFE, modrm=0, lock=True), pair(0xFE, modrm=1, lock=True)
     row(0xFF, modrm=2), row(0xFF, modrm=4), row(0xFF, modrm=6)
-    row(0x0F, 0x0B), row(0x0F, 0x1F, modrm=0, v=True), row(0x0F, 0x1E, 0xFB, rep="must")
+    row(0x0F, 0x0B), row(0x0F, 0x1F, modrm=0, v=True, gs=False), row(0x0F, 0x1E, 0xFB, rep="must")
     for k, opcode in enumerate((0xA3, 0xAB, 0xB3, 0xBB)):
         row(0x0F, opcode, modrm="r", v=True, mode="reg")
         row(0x0F, 0xBA, modrm=4 + k, imm="ib", v=True, lock=k != 0)
@@ -169,7 +173,7 @@ def samples(rng):
             front = ([0xF3] if row.rep == "must" else []) + [WORD] * word
             for modrm in ([a << 6 | b for a in range(4) for b in range(8)] if row.modrm is not None else (None,) * 4):
                 yield bytes(front) + body(rng, row, modrm, word=word)
-        for prefix in PREFIXES + (0x64, 0x65, 0x67):
+        for prefix in PREFIXES + (0x64, 0x67):
             for modrm in (0x00, 0xC0):
                 yield bytes([prefix]) + body(rng, row, modrm | rng.randrange(8), word=prefix == WORD)
         for _ in range(8):
@@ -188,7 +192,7 @@ def samples(rng):
 
 
 NAMES = {"pusha": "pushad", "popa": "popad", "pushf": "pushfd", "popf": "popfd"}
-IDLE = {"cs", "ds", "es", "ss", "data16", "notrack"}
+IDLE = {"cs", "ds", "es", "ss", "gs", "data16", "notrack"}
 REPEAT = {"lock": "lock ", "rep": "rep ", "repz": "repe ", "repnz": "repne ", "repe": "repe ", "repne": "repne "}
 WIDTHS = {"al": "byte", "ax": "word", "eax": "dword"}
 
@@ -213,10 +217,12 @@ def plain(text):
     if re.match(r"xlat|nop|xchg ax,ax", text):
         return text.split()[0].replace("xchg", "nop").replace("xlat", "xlatb")
     text = re.sub(r"\b[cdes]s:(0x[0-9a-f]+)", r"[\1]", re.sub(r"\b[cdes]s:\[", "[", text))
+    text = re.sub(r"\bgs:(0x[0-9a-f]+)", r"gs:[\1]", text)
     text = re.sub(r"\b(BYTE|WORD|DWORD) PTR ", lambda size: size.group(1).lower() + " ", text)
     text = re.sub(r"\[([^\]]*)\]", address, text)
-    text = re.sub(r"^mov (al|ax|eax),\[", lambda mov: f"mov {mov.group(1)},{WIDTHS[mov.group(1)]} [", text)
-    text = re.sub(r"^mov \[(.*),(al|ax|eax)$", lambda mov: f"mov {WIDTHS[mov.group(2)]} [{mov.group(1)},{mov.group(2)}", text)
+    text = re.sub(r"^mov (al|ax|eax),((gs:)?\[)", lambda mov: f"mov {mov.group(1)},{WIDTHS[mov.group(1)]} {mov.group(2)}", text)
+    text = re.sub(r"^mov ((gs:)?\[.*),(al|ax|eax)$", lambda mov: f"mov {WIDTHS[mov.group(3)]} {mov.group(1)},{mov.group(3)}", text)
+    text = re.sub(r"^mov gs,e(\w\w)$", r"mov gs,\1", text)
     text = re.sub(r",1$", ",0x1", text)
     if text.startswith(("ret", "pause")):
         return text.removesuffix(" 0x0")
@@ -246,11 +252,11 @@ def narrower(data, text, names):
     no reason."""
     if "(bad)" in text:
         return "none by objdump"
-    count = next(i for i, byte in enumerate(data) if byte not in PREFIXES + (0x64, 0x65, 0x67))
+    count = next(i for i, byte in enumerate(data) if byte not in PREFIXES + (0x64, 0x67))
     prefixes, rest = set(data[:count]), data[count:]
-    if prefixes & {0x64, 0x65, 0x67}:
-        return "the prefixes 64, 65 and 67"
-    found = [row.match(rest, prefixes - {0xF0}) for row in rows_for(rest)]
+    if prefixes & {0x64, 0x67}:
+        return "the prefixes 64 and 67"
+    found = [row.match(rest, prefixes - {0xF0, GS}) for row in rows_for(rest)]
     if any(match and match[0] for match in found):
         if all(not match or count + match[1] > LONGEST for match in found):
             return "more than 15 bytes"

@@ -4,7 +4,8 @@
     trace.py MULTIVERSE FOLDER
 
 The programs of checks/programs.d say in their first lines what they print and how they end. Their system calls are
-answered as Linux answers them there: a write by its length, a read by what is left of the input. The random programs are
+answered as Linux answers them there: a write by its length, a read by what is left of the input, set_thread_area by a new
+descriptor; and CPUID by a name. The random programs are
 those of checks/machine: the registers and flags with which a trace ends are those that the processor stored last.
 """
 import glob, os, re, struct, subprocess, sys
@@ -17,7 +18,9 @@ OPTIONS = ("-m32 -static -nostdlib -ffreestanding -fno-pic -fno-stack-protector 
 LEVELS, RANDOM = ("-O0", "-Os"), range(1000, 1040)
 INPUT = b"The quick brown fox\n  jumps over 13 lazy dogs.\n"
 ARGUMENTS = b"program", b"one", b"two words", b""
-EXIT, READ, WRITE = 1, 3, 4
+EXIT, READ, WRITE, SET_THREAD_AREA = 1, 3, 4, 243
+FIRST_DESCRIPTOR = 12
+CPUID = "cpuid 00000016 756e6547 6c65746e 49656e69"
 MOST_CALLS, STEPS = 4000, 50_000_000
 # the status with which a shell names the signal of each end
 SIGNALS = {"trap read": 139, "trap write": 139, "trap fetch": 139, "trap protection": 139,
@@ -43,10 +46,11 @@ class Trace:
         return [line for line in self.text.splitlines() if not line.startswith("steps ")]
 
 
-def answers_of(calls, log):
-    """The answers to these calls, as many as are answered rightly, and then one of no effect for each further one."""
-    answers, left = [], INPUT
-    for number, _, place, length, *_ in calls:
+def answers_of(calls, names):
+    """The answers to these calls, and to CPUID where so many calls were made before it; and whether the last ends the program."""
+    answers, left, index = [], INPUT, FIRST_DESCRIPTOR
+    for made, (number, structure, place, length, *_) in enumerate(calls):
+        answers += [CPUID] * names.count(made)
         if number == EXIT:
             return answers + ["gone"], True
         if number == WRITE:
@@ -56,20 +60,27 @@ def answers_of(calls, log):
             answers.append(f"ret {len(taken):08x}")
             if taken:
                 answers.append(f"write {place:08x} {taken.hex()}")
+        elif number == SET_THREAD_AREA:
+            entry = index.to_bytes(4, "little").hex()
+            answers += ["ret 00000000", f"write {structure:08x} {entry}", f"desc {index:08x} {place:08x}"]
+            index += 1
         else:
             answers.append("ret ffffffda")
-    return answers, False
+    return answers + [CPUID] * names.count(len(calls)), False
 
 
 def answered(multiverse, file, log):
-    """The trace of a file whose calls are each answered as on Linux. A call is known once those before it are answered."""
-    known, answers = 0, []
+    """The trace of a file whose calls are each answered as on Linux. A call is known once those before it are answered; that
+    CPUID comes next is known where an answer to a call is a bad one."""
+    known, names, answers = 0, [], []
     while True:
         trace = Trace(multiverse, file, answers + ["ret 00000000"] * (MOST_CALLS - known), log)
-        reads = [k for k, call in enumerate(trace.calls) if call[0] == READ and k >= known]
-        known = reads[0] + 1 if reads else len(trace.calls)
-        answers, over = answers_of(trace.calls[:known], log)
-        if over or not reads:
+        told = [k for k, call in enumerate(trace.calls) if call[0] in (READ, SET_THREAD_AREA) and k >= known]
+        known = told[0] + 1 if told else len(trace.calls)
+        named = not told and trace.end == "badanswer"
+        names += [known] * named
+        answers, over = answers_of(trace.calls[:known], names)
+        if over or not told and not named:
             return answers, Trace(multiverse, file, answers, log)
 
 

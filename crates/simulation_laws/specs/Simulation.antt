@@ -18,7 +18,7 @@ use Rattle.elf32_write.specs.Frame.{Frame, frame, frame_map, is_added, is_privat
 
 -- ---- starts and runs
 
--- registers, flags and further cells, with which a file's run begins
+-- registers, flags, GS and further cells, with which a file's run begins
 pub record Start : Type 0 where
   pub core : Core
   pub cells : Memory
@@ -30,9 +30,9 @@ pub record IsStart (b : List ℕ) (s : Start) : Type 0 where
   pub idle : (a : ℕ) → is_executable s.cells a ≡ false
   pub apart : (a : ℕ) → is_mapped (load b) a ≡ true → s.cells a ≡ None
 
--- the first state of a file's run
+-- the first state of a file's run; there are no descriptors
 abbrev pub begin : List ℕ → Start → List Answer → State
-begin b s answers = record { core = s.core; eip = entry_at b; memory = joined (load b) s.cells; answers = answers; calls = [] }
+begin b s answers = record { core = s.core; descs = []; eip = entry_at b; memory = joined (load b) s.cells; answers = answers; calls = [] }
 
 -- the n-th state of a file's run, where n steps complete
 abbrev pub run_state : List ℕ → Start → List Answer → ℕ → Option State
@@ -59,6 +59,7 @@ pub record IsClear (b : List ℕ) (f : Frame) (s : Start) (answers : List Answer
 -- a state o of the input b and a state t of the output x agree, where c has a number for each counted site
 pub record Agree (b x : List ℕ) (f : Frame) (o t : State) (c : ℕ → ℕ) : Type 0 where
   pub core : t.core ≡ o.core
+  pub descs : t.descs ≡ o.descs
   pub calls : t.calls ≡ o.calls
   pub answers : t.answers ≡ o.answers
   pub place : t.eip ≡ frame_map f o.eip

@@ -38,10 +38,11 @@ QuietIn b x f s answers n = is_some (run_state b s answers n) ≡ true → IsCle
 
 -- ---- stops
 
--- at a stop at a site: the same registers, flags, calls and answers, the same memory outside the added
+-- at a stop at a site: the same core, descriptors, calls and answers, the same memory outside the added
 -- range, and each counter as before, but for that of the site, which has one more
 pub record StopsSame (f : Frame) (at : ℕ) (o t : State) (c : ℕ → ℕ) : Type 0 where
   pub core : t.core ≡ o.core
+  pub descs : t.descs ≡ o.descs
   pub same : ShowsSame (is_added f) o t
   pub counts : (k : ℕ) → k < f.counters → number (bytes_at t.memory (counter_place f k) 8) ≡ (c (counted_at f k) + (if counted_at f k == at then 1 else 0)) % 2 ^ 64
 
