@@ -318,6 +318,77 @@ const INDIRECT: [Row; 8] = [
     },
 ];
 
+/// GS, descriptors and CPUID.
+const SEGMENTS: [Row; 7] = [
+    // a descriptor of an answer, `mov eax,0x33`, `mov gs,ax`, and a read of the program's first bytes through GS
+    Row {
+        head: &[],
+        code: b"\xcd\x80\xb8\x33\0\0\0\x8e\xe8\x65\xa1\x14\0\0\0\xf4",
+        log: "log 1\nret 00000000\ndesc 00000006 08048040\n",
+        limit: "100",
+        state: "call 00000000 00000000 00000000 00000000 00000000 00000000 00000000\nregs 33b880cd 00000000 00000000 00000000 bfffefe0 00000000 00000000 00000000\nflags 00000202\n",
+        end: "end trap protection\nsteps 4\n",
+        rewritten: "end trap protection\nsteps 4\n",
+    },
+    // a read and a jump through GS without a base
+    Row {
+        head: &[],
+        code: b"\x65\xa1\0\0\0\0",
+        log: "log 1\n",
+        limit: "100",
+        state: AT_REST,
+        end: "end trap protection\nsteps 0\n",
+        rewritten: "end trap protection\nsteps 0\n",
+    },
+    Row {
+        head: &[],
+        code: b"\x65\xff\x25\0\0\0\0",
+        log: "log 1\n",
+        limit: "100",
+        state: AT_REST,
+        end: "end trap protection\nsteps 0\n",
+        rewritten: "end trap protection\nsteps 1\n",
+    },
+    // `cpuid`, with an answer of its own, without one, and with a system call's
+    Row {
+        head: &[],
+        code: b"\x0f\xa2\xf4",
+        log: "log 1\ncpuid 00000001 00000002 00000003 00000004\n",
+        limit: "100",
+        state: "regs 00000001 00000003 00000004 00000002 bfffefe0 00000000 00000000 00000000\nflags 00000202\n",
+        end: "end trap protection\nsteps 1\n",
+        rewritten: "end trap protection\nsteps 1\n",
+    },
+    Row {
+        head: &[],
+        code: b"\x0f\xa2\xf4",
+        log: "log 1\n",
+        limit: "100",
+        state: AT_REST,
+        end: "end noanswer\nsteps 0\n",
+        rewritten: "end noanswer\nsteps 0\n",
+    },
+    Row {
+        head: &[],
+        code: b"\x0f\xa2\xf4",
+        log: "log 1\nret 00000000\n",
+        limit: "100",
+        state: AT_REST,
+        end: "end badanswer\nsteps 0\n",
+        rewritten: "end badanswer\nsteps 0\n",
+    },
+    // a selector of a table that isn't there
+    Row {
+        head: &[],
+        code: b"\xb8\x34\0\0\0\x8e\xe8",
+        log: "log 1\n",
+        limit: "100",
+        state: "regs 00000034 00000000 00000000 00000000 bfffefe0 00000000 00000000 00000000\nflags 00000202\n",
+        end: "end trap protection\nsteps 1\n",
+        rewritten: "end trap protection\nsteps 1\n",
+    },
+];
+
 /// A store that holds an image and a log.
 pub(crate) fn store_of(alloc: Global, image: &[u8], log: &str) -> Result<MemStore, Fail> {
     let mut store = MemStore::new(alloc, Vec::new(alloc), Vec::new(alloc))?;
@@ -385,6 +456,14 @@ fn programs_are_traced(rt: HostRuntime) -> Result<(), Fail> {
 #[test]
 fn system_calls_are_traced(rt: HostRuntime) -> Result<(), Fail> {
     for row in &SYSTEM_CALLS {
+        check_row(&rt, row)?;
+    }
+    Ok(())
+}
+
+#[test]
+fn gs_and_cpuid_are_traced(rt: HostRuntime) -> Result<(), Fail> {
+    for row in &SEGMENTS {
         check_row(&rt, row)?;
     }
     Ok(())
