@@ -14,7 +14,7 @@ use Rattle.x86_insn.specs.Flow.{flow_of, falls}
 use Rattle.x86_insn.specs.Transfers.{target_of}
 use Rattle.x86_insn.specs.State.{State, Outcome, Next, Stopped}
 use Rattle.x86_insn.specs.Step.{Found, fetch, fetch_in, executed, step}
-use Rattle.x86_insn.specs.TakenUp.{effects_by_flow, effects_of}
+use Rattle.x86_insn.specs.TakenUp.{effects_by_flow, taken_of}
 use Rattle.step_laws.specs.Jumps.{jump_bytes}
 use Rattle.step_laws.specs.Bounds.{IsState, IsOutcome}
 use Rattle.step_laws.specs.Beside.{IsClearOutcome, StatesBeside}
@@ -44,7 +44,7 @@ use Rattle.simulation_laws.specs.Pieces.{piece_of, piece}
 use Rattle.simulation_laws.specs.Relocated.{StandAt, LeadsOn, anchors_of, IsOutput}
 use Rattle.simulation_laws.specs.Simulation.{IsClearEffect, IsClearStep, step_bound}
 use Rattle.simulation_laws.specs.Stepping.{area_of, IsSound, Alike}
-use Rattle.simulation_laws.specs.laws.StepTable.{trap_never, is_direct, branch_is, count_is, call_is, jump_via_is, call_via_is, return_is}
+use Rattle.simulation_laws.specs.laws.StepTable.{taken_clear, trap_never, is_direct, branch_is, count_is, call_is, jump_via_is, call_via_is, return_is}
 use Rattle.simulation_laws.specs.laws.Sound.{alike_after, code_same, at_piece, stands_in}
 use Rattle.simulation_laws.specs.laws.ThroughStub.{lookup_most, stub_end, via_goes}
 
@@ -328,5 +328,5 @@ module _ (b x : List ℕ) (f : Frame) (rel : IsOutput b x f) (o t : State) (i : 
   piece_meets clear =
       let is = fetched_step o i n found in
       subst (PieceMeets f o t) (sym is) (flow_meets (flow_of i) refl
-      (subst (λ r. AllByRecursion (IsClearEffect b f) (effects_of r o.answers)) found clear.effects_clear)
+      (taken_clear (IsClearEffect b f) i o.answers (subst (λ r. AllByRecursion (IsClearEffect b f) (taken_of r o.answers)) found clear.effects_clear))
       (subst (IsClearOutcome (is_added f)) is clear.stop_clear))

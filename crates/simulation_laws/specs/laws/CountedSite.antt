@@ -190,6 +190,7 @@ module _ (b x : List ℕ) (f : Frame) (rel : IsOutput b x f) where
 
       kept : KeepsRest (is_private f) t run.last
       kept = record {
+        descs = run.keeps.descs;
         calls = run.keeps.calls;
         answers = run.keeps.answers;
         memory = keeps_wider (is_scratch f.private p) (is_private f) t.memory run.last.memory scratch_within run.keeps.memory;
@@ -246,7 +247,7 @@ module _ (b x : List ℕ) (f : Frame) (rel : IsOutput b x f) where
         few = few;
         told = run.last;
         passes = passes_weaker (KeepsRest (is_scratch f.private p) t) (ShowsSame (is_added f) o)
-            (λ v k. rest_shows (counting_area f) o t there alike.beside v (record { calls = k.calls; answers = k.answers; memory = keeps_wider (is_scratch f.private p) (is_private f) t.memory v.memory scratch_within k.memory }))
+            (λ v k. rest_shows (counting_area f) o t there alike.beside v (record { descs = k.descs; calls = k.calls; answers = k.answers; memory = keeps_wider (is_scratch f.private p) (is_private f) t.memory v.memory scratch_within k.memory }))
             (counting_steps now) t run.last run.passes;
         keeps = cells_keep (counting_area f) t.memory there run.last.memory kept.memory;
         counts = counts_one;
@@ -256,6 +257,7 @@ module _ (b x : List ℕ) (f : Frame) (rel : IsOutput b x f) where
       beside_after : StatesBeside (is_added f) o run.last
       beside_after = record {
         core = run.core ∙ alike.beside.core;
+        descs = kept.descs ∙ alike.beside.descs;
         calls = kept.calls ∙ alike.beside.calls;
         answers = kept.answers ∙ alike.beside.answers;
         memory = cells_beside (counting_area f) t.memory there o.memory run.last.memory alike.beside.memory kept.memory;

@@ -106,13 +106,14 @@ module _ (b x : List ℕ) (f : Frame) (rel : IsCarried b x f) where
 
   begin_sound : (s : Start) (answers : List Answer) → IsStart b s → AllByRecursion IsAnswer answers → IsSound b (begin b s answers)
   begin_sound s answers start good = record {
-    bounds = record { core = start.core; place = word_at-lt b 24 rel.output.bytes; memory = begin_memory b rel.output.bytes file_low s start; answers = good };
+    bounds = record { core = start.core; descs = tt; place = word_at-lt b 24 rel.output.bytes; memory = begin_memory b rel.output.bytes file_low s start; answers = good };
     code = λ a. joined_code (load b a) (s.cells a) (start.idle a);
   }
 
   begin_fits : (s : Start) (answers : List Answer) → IsStart b s → AllByRecursion IsAnswer answers → IsState (begin x s answers)
   begin_fits s answers start good = record {
     core = start.core;
+    descs = tt;
     place = word_at-lt x 24 rel.output.bytes_there;
     memory = begin_memory x rel.output.bytes_there (load_low x rel.output.admitted) s start;
     answers = good;
@@ -131,6 +132,7 @@ module _ (b x : List ℕ) (f : Frame) (rel : IsCarried b x f) where
   begin_agree : (s : Start) (answers : List Answer) (c : ℕ → ℕ) → ((a : ℕ) → c a ≡ 0) → IsStart b s → ((a : ℕ) → is_added f a ≡ true → s.cells a ≡ None) → Agree b x f (begin b s answers) (begin x s answers) c
   begin_agree s answers c none start clear = record {
     core = refl;
+    descs = refl;
     calls = refl;
     answers = refl;
     place = rel.entry;

@@ -62,7 +62,7 @@ module _ (b x : List ℕ) (f : Frame) (rel : IsCarried b x f) where
         why_there = why;
         last_there = h.stopped;
         stops = h.stops;
-        alike = (refl, record { core = h.alike.core; same = shows_of (is_added f) last h.stopped h.alike; counts = counts_on f o.eip t.memory h.stopped.memory c has m.comes.1 });
+        alike = (refl, record { core = h.alike.core; descs = h.alike.descs; same = shows_of (is_added f) last h.stopped h.alike; counts = counts_on f o.eip t.memory h.stopped.memory c has m.comes.1 });
       }
 
   -- where there is none

@@ -33,7 +33,7 @@ counts_on f at m u c has one k lt =
 
 pub alike_of : (b x : List ℕ) (f : Frame) (o t : State) (c : ℕ → ℕ) → Agree b x f o t c → Alike x f o t
 alike_of b x f o t c a = record {
-  beside = record { core = a.core; calls = a.calls; answers = a.answers; memory = record { outside = a.outside; free = a.free } };
+  beside = record { core = a.core; descs = a.descs; calls = a.calls; answers = a.answers; memory = record { outside = a.outside; free = a.free } };
   idle = a.idle;
   block = a.block;
   kept = a.kept;
@@ -43,6 +43,7 @@ alike_of b x f o t c a = record {
 pub agree_of : (b x : List ℕ) (f : Frame) (o t : State) (c : ℕ → ℕ) → IsSound b o → Alike x f o t → t.eip ≡ frame_map f o.eip → HasCounts f t.memory c → Agree b x f o t c
 agree_of b x f o t c own s place counts = record {
   core = s.beside.core;
+  descs = s.beside.descs;
   calls = s.beside.calls;
   answers = s.beside.answers;
   place = place;

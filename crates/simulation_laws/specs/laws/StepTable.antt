@@ -1,6 +1,10 @@
 -- What the step's table says of two flows: a trap never completes, and a jump is a direct one.
 use Rattle.std.proofs.Common.{◌≡◌, ℕ, Bool, true, false, [], refl, sym, ap, ◌∙◌, subst}
 use Rattle.std.proofs.lemmas.Bool.{true≢false}
+use Rattle.std.specs.Prelude.{List}
+use Rattle.std.specs.List.{AllByRecursion}
+use Rattle.mv_base.specs.Effects.{Descs, Effect, Answer}
+use Rattle.x86_insn.specs.TakenUp.{effects_by_flow, taken_by}
 use Rattle.x86_insn.specs.declared.insn.Cond.{Cond}
 use Rattle.x86_insn.specs.declared.insn.LoopKind.{LoopKind}
 use Rattle.x86_insn.specs.declared.insn.Rm.{Rm}
@@ -25,13 +29,18 @@ abbrev is_jump : Flow → Bool
 is_jump flow.Jump = true
 is_jump _ = false
 
+-- what is taken up holds of what is applied: CPUID applies nothing
+pub taken_clear : (P : Effect → Type 0) (i : Insn) (answers : List Answer) → AllByRecursion P (taken_by i answers) → AllByRecursion P (effects_by_flow (flow_of i) answers)
+taken_clear P insn.Cpuid answers h = tt
+taken_clear P _ answers h = h
+
 -- an instruction of flow Trap stops in its first round
-trap_halts : (i : Insn) (c : Core) → flow_of i ≡ flow.Trap → (why : Stop) × (round i c [] ≡ Halts why)
+trap_halts : (i : Insn) (ds : Descs) (c : Core) → flow_of i ≡ flow.Trap → (why : Stop) × (round i ds c [] ≡ Halts why)
 unfolding round
-trap_halts insn.Int3 c e = (_, refl)
-trap_halts insn.Hlt c e = (_, refl)
-trap_halts insn.Ud2 c e = (_, refl)
-trap_halts _ c e = absurd (true≢false (sym (ap is_trap e)))
+trap_halts insn.Int3 ds c e = (_, refl)
+trap_halts insn.Hlt ds c e = (_, refl)
+trap_halts insn.Ud2 ds c e = (_, refl)
+trap_halts _ ds c e = absurd (true≢false (sym (ap is_trap e)))
 
 trap_limit : (i : Insn) (c : Core) → flow_of i ≡ flow.Trap → limit i c ≡ 1
 unfolding limit
@@ -40,11 +49,11 @@ trap_limit insn.Hlt c e = refl
 trap_limit insn.Ud2 c e = refl
 trap_limit _ c e = absurd (true≢false (sym (ap is_trap e)))
 
-trap_stops : (s : State) (i : Insn) (next : ℕ) → flow_of i ≡ flow.Trap → (why : Stop) × (after_rounds s next (rounds (limit i s.core) i s.core s.memory) ≡ Stopped why s)
+trap_stops : (s : State) (i : Insn) (next : ℕ) → flow_of i ≡ flow.Trap → (why : Stop) × (after_rounds s next (rounds (limit i s.core) i s.descs s.core s.memory) ≡ Stopped why s)
 trap_stops s i next e =
-    let h = trap_halts i s.core e in
-    let one = ap (λ n. rounds n i s.core s.memory) (trap_limit i s.core e) ∙ one_round i s.core s.memory in
-    let halted = ap (λ p. after_turn p s.core s.memory (rounds 0 i)) (turn_halts s.memory (round i s.core) h.0 h.1) in
+    let h = trap_halts i s.descs s.core e in
+    let one = ap (λ n. rounds n i s.descs s.core s.memory) (trap_limit i s.core e) ∙ one_round i s.descs s.core s.memory in
+    let halted = ap (λ p. after_turn p s.core s.memory (rounds 0 i s.descs)) (turn_halts s.memory (round i s.descs s.core) h.0 h.1) in
     (h.0, ap (after_rounds s next) (one ∙ halted))
 
 -- an instruction of flow Jump is a direct jump

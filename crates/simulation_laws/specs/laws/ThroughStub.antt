@@ -112,10 +112,11 @@ module _ (b x : List ℕ) (f : Frame) (rel : IsOutput b x f) (o u : State) (boun
   via_goes g =
       let found = finds f.form f.runs f.private (frame_table f) f.table.lo f.code.lo o.eip u (lookup g) in
       let wider : (v : State) → KeepsRest (is_scratch f.private) u v → KeepsRest (area_of f).scratch u v = λ v k. record {
+        descs = k.descs;
         calls = k.calls;
         answers = k.answers;
         memory = keeps_wider (is_scratch f.private) (area_of f).scratch u.memory v.memory (λ a h. stub_private f.private a h) k.memory;
       } in
       rest_reaches (area_of f) o u there s.beside (lookup_steps f.form f.runs o.eip) (Moves (frame_map f)) o found.last
       (passes_weaker (KeepsRest (is_scratch f.private) u) (KeepsRest (area_of f).scratch u) wider (lookup_steps f.form f.runs o.eip) u found.last found.passes)
-      (wider found.last found.keeps) (found.core ∙ s.beside.core) refl refl refl found.place
+      (wider found.last found.keeps) (found.core ∙ s.beside.core) refl refl refl refl found.place
