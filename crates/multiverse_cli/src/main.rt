@@ -25,6 +25,8 @@ mod counted_rows;
 mod failure;
 #[cfg(test)]
 mod hostile_rows;
+#[cfg(test)]
+mod inner_rows;
 mod listing;
 #[cfg(test)]
 mod listings;

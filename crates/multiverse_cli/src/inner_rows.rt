@@ -1,0 +1,124 @@
+//! An output one step at a time: each of its states shows what its input shows before a step or after it.
+
+ghost use Rattle.std.specs.Prelude.{◌≤◌, ◌+◌, length};
+
+use crate::run::run;
+use crate::tests::{file_of, strings};
+use crate::trace_rows::store_of;
+use elf32_read::read_image;
+use mv_base::{MemSink, MemStore, Status};
+use std::alloc::Global;
+use std::process::Abort;
+use std::test::Fail;
+use syscall_log::{AnswerList, Args, Log};
+use x86_insn::Width;
+use x86_machine::{Answers, Kind, Machine, Outcome};
+
+/// `mov al,127`, `add al,1`, `stc`, `std`, `push 0x08048062`, `ret 8`, `hlt`: the return goes to `hlt`.
+const CODE: &[u8] = b"\xb0\x7f\x04\x01\xf9\xfd\x68\x62\x80\x04\x08\xc2\x08\0\xf4";
+
+/// How many steps it completes.
+const STEPS: u32 = 6;
+
+/// How many its output completes: a copy of each of the first five, three of the return's piece and 28 of the stub.
+const OUTPUT_STEPS: u32 = 36;
+
+/// The code, and the stack from 64 bytes below its first place on: the first address of each, and how many bytes.
+const SHOWN: [(u32, u32); 2] = [(0x0804_8050, 24), (0xbfff_efa0, 0x60)];
+
+/// A machine on its way, with the answers of its log: it has room for a call for each that is left.
+#[derive(Drop)]
+struct Walk<'a> {
+    machine: Machine,
+    answers: Answers<'a>,
+    ghost next: { answers.next ≤ length answers.log.now.answers },
+    ghost room: { length answers.log.now.answers ≤ machine.calls.spare + answers.next },
+}
+
+impl<'a> Walk<'a> {
+    /// From the entry of a file that is a program.
+    fn start(alloc: Global, file: &[u8], log: &'a Log) -> Result<Walk<'a>, Fail> {
+        let image = read_image(alloc, file).ok().ok_or("an image")?;
+        let machine = Machine::start(alloc, &image, file, log)?;
+        let answers = Answers { log, next: 0 };
+        Ok(Walk { machine, answers })
+    }
+
+    fn step(&mut self) -> Outcome {
+        self.machine.step(&mut self.answers)
+    }
+
+    /// What it shows at an address: the byte there, or none, and whether it can be written.
+    fn shown_at(&self, at: u32) -> (Option<u32>, bool) {
+        let memory = &self.machine.memory;
+        let byte = memory.read(at, Width::B).ok();
+        (byte, memory.write_fault(at, 1).is_none())
+    }
+
+    /// Whether it shows what another shows.
+    fn is_like(&self, other: &Walk) -> bool {
+        SHOWN.iter().all(|(first, len)| {
+            (0..*len).all(|offset| {
+                let at = first.wrapping_add(offset);
+                self.shown_at(at) == other.shown_at(at)
+            })
+        })
+    }
+}
+
+/// Steps an input that has completed so many steps until it shows what its output shows, or all are completed, and says how
+/// many are.
+fn follow(rt: &impl Abort, input: &mut Walk, output: &Walk, steps: u32) -> u32 {
+    for done in steps..STEPS {
+        if input.is_like(output) {
+            return done;
+        }
+        assert_eq!(rt; input.step(), Outcome::Next);
+    }
+    STEPS
+}
+
+/// A store that holds an image as `a` and its rewritten form as `b`.
+fn rewritten(rt: &(impl AllocGlobal + Abort), image: &[u8]) -> Result<MemStore, Fail> {
+    let alloc = rt.alloc();
+    let mut store = store_of(alloc, image, "log 1\n")?;
+    let words = strings(alloc, &["rewrite", "a", "b"])?;
+    let mut text = MemSink::new(alloc, Vec::new(alloc))?;
+    let status = run(alloc, words.as_slice(), &mut store, &mut text);
+    assert_eq!(rt; status, Status::Done);
+    Ok(store)
+}
+
+/// A log without arguments and answers.
+fn empty_log(alloc: Global) -> Result<Log, Fail> {
+    let args = Args::new(Vec::new(alloc));
+    let answers = AnswerList::new(Vec::new(alloc));
+    Ok(Log::new(args, answers).ok_or("a log")?)
+}
+
+#[test]
+fn each_state_of_a_return_shows_what_its_input_shows(rt: HostRuntime) -> Result<(), Fail> {
+    let alloc = rt.alloc();
+    let image = file_of(alloc, &[], CODE)?;
+    let store = rewritten(&rt, image.as_slice())?;
+    let log = empty_log(alloc)?;
+    let mut input = Walk::start(alloc, image.as_slice(), &log)?;
+    let mut output = Walk::start(alloc, store.file("b").ok_or("an output")?, &log)?;
+    let mut steps = 0;
+    for _ in 0..OUTPUT_STEPS {
+        assert_eq!(rt; output.step(), Outcome::Next);
+        steps = follow(&rt, &mut input, &output, steps);
+        assert!(rt; input.is_like(&output), "after {} steps", steps);
+    }
+    // the push is the last that shows
+    assert_eq!(rt; steps, 5);
+    for _ in steps..STEPS {
+        assert_eq!(rt; input.step(), Outcome::Next);
+    }
+    let stop = Outcome::Trap(Kind::Protection, 0);
+    assert_eq!(rt; input.step(), stop);
+    assert_eq!(rt; output.step(), stop);
+    assert!(rt; input.is_like(&output));
+    assert_eq!(rt; input.machine.regs, output.machine.regs);
+    Ok(())
+}
