@@ -1,5 +1,5 @@
 -- What was read so far: while items come that may come, it is a log from the header on.
-use Rattle.std.proofs.Common.{◌≡◌, ◌≢◌, ℕ, suc, ◌+◌, ◌<◌, ◌^◌, List, [], ◌∷◌, ◌++◌, length, map, refl, sym, ap, ◌∙◌, subst, append_assoc, append-nil, length-append, arith}
+use Rattle.std.proofs.Common.{◌≡◌, ◌≢◌, ℕ, ◌+◌, ◌<◌, ◌^◌, List, [], ◌∷◌, ◌++◌, length, map, refl, sym, ap, ◌∙◌, subst, append_assoc, append-nil, length-append, arith}
 use Rattle.std.specs.List.{flat_map, All, AllByRecursion}
 use Rattle.std.proofs.lemmas.List.Sums.{sum_by-append}
 use Rattle.std.proofs.lemmas.List.Elements.{All-append, All-cons}
@@ -20,20 +20,33 @@ use Rattle.syscall_log.specs.Drafts.{args_with, with_effect, last_with_effect, a
 use Rattle.syscall_log.proofs.Runs.{bytes_of}
 
 -- answers none of which ends the program
-abbrev pub IsRet : Answer → Type 0
-IsRet (answer.Ret eax effects) = Unit {0}
-IsRet answer.Gone = ⊥
+abbrev pub GoesOn : Answer → Type 0
+GoesOn (answer.Ret eax effects) = Unit {0}
+GoesOn answer.Gone = ⊥
+GoesOn (answer.Cpuid eax ebx ecx edx) = Unit {0}
 
-abbrev pub AreRets : List Answer → Type 0
-AreRets [] = Unit {0}
-AreRets (a ∷ answers) = IsAnswer (answer_of a) × IsRet a × AreRets answers
+abbrev pub AllGoOn : List Answer → Type 0
+AllGoOn [] = Unit {0}
+AllGoOn (a ∷ answers) = IsAnswer (answer_of a) × GoesOn a × AllGoOn answers
+
+-- answers the last of which takes effects
+abbrev pub TakesEffects : Answer → Type 0
+TakesEffects (answer.Ret eax effects) = Unit {0}
+TakesEffects answer.Gone = ⊥
+TakesEffects (answer.Cpuid eax ebx ecx edx) = ⊥
+
+abbrev pub LastTakesEffects : List Answer → Type 0
+LastTakesEffects [] = ⊥
+LastTakesEffects (a ∷ []) = TakesEffects a
+LastTakesEffects (a ∷ b ∷ answers) = LastTakesEffects (b ∷ answers)
 
 -- what a phase says of the arguments and answers so far
 abbrev pub Tied : Phase → List (List ℕ) → List Answer → Type 0
 Tied phase.Start args answers = (args ≡ []) × (answers ≡ [])
 Tied (phase.Arguments places room) args answers =
     (answers ≡ []) × (places + length args ≡ 1024) × (room + bytes_of args ≡ 65536) × All IsArgument args
-Tied phase.Answers args answers = AreArguments args × AreRets answers × (0 < length answers)
+Tied phase.Answers args answers = AreArguments args × AllGoOn answers × LastTakesEffects answers
+Tied phase.Settled args answers = AreArguments args × AllGoOn answers
 Tied phase.Over args answers = IsLog args answers
 
 -- the items so far
@@ -41,6 +54,7 @@ abbrev pub items_so_far : Phase → List (List ℕ) → List Answer → List Ite
 items_so_far phase.Start args answers = []
 items_so_far (phase.Arguments places room) args answers = items_of args answers
 items_so_far phase.Answers args answers = items_of args answers
+items_so_far phase.Settled args answers = items_of args answers
 items_so_far phase.Over args answers = items_of args answers
 
 -- an item more
@@ -48,34 +62,48 @@ pub record Adds (p : Phase) (args : List (List ℕ)) (answers : List Answer) (i 
   pub tied : Tied (phase_after p i) (args_with args i) (answers_with answers i)
   pub items : items_so_far (phase_after p i) (args_with args i) (answers_with answers i) ≡ items_so_far p args answers ++ i ∷ []
 
-AreAnswers-rets : (answers : List Answer) → AreRets answers → AreAnswers answers
-AreAnswers-rets [] are = tt
-AreAnswers-rets (answer.Ret eax effects ∷ answers) are = (are.0, tt, AreAnswers-rets answers are.2)
-AreAnswers-rets (answer.Gone ∷ answers) are = absurd are.1
+AreAnswers-on : (answers : List Answer) → AllGoOn answers → AreAnswers answers
+AreAnswers-on [] on = tt
+AreAnswers-on (answer.Ret eax effects ∷ answers) on = (on.0, tt, AreAnswers-on answers on.2)
+AreAnswers-on (answer.Gone ∷ answers) on = absurd on.1
+AreAnswers-on (answer.Cpuid eax ebx ecx edx ∷ answers) on = (on.0, tt, AreAnswers-on answers on.2)
 
-AreAnswers-gone : (answers : List Answer) → AreRets answers → AreAnswers (answers ++ answer.Gone ∷ [])
-AreAnswers-gone [] are = (tt, refl, tt)
-AreAnswers-gone (answer.Ret eax effects ∷ answers) are = (are.0, tt, AreAnswers-gone answers are.2)
-AreAnswers-gone (answer.Gone ∷ answers) are = absurd are.1
+AreAnswers-gone : (answers : List Answer) → AllGoOn answers → AreAnswers (answers ++ answer.Gone ∷ [])
+AreAnswers-gone [] on = (tt, refl, tt)
+AreAnswers-gone (answer.Ret eax effects ∷ answers) on = (on.0, tt, AreAnswers-gone answers on.2)
+AreAnswers-gone (answer.Gone ∷ answers) on = absurd on.1
+AreAnswers-gone (answer.Cpuid eax ebx ecx edx ∷ answers) on = (on.0, tt, AreAnswers-gone answers on.2)
 
-AreRets-more : (answers : List Answer) (eax : ℕ) → AreRets answers → eax < 2 ^ 32 → AreRets (answers ++ answer.Ret eax [] ∷ [])
-AreRets-more [] eax are small = ((small, tt), tt, tt)
-AreRets-more (a ∷ answers) eax are small = (are.0, are.1, AreRets-more answers eax are.2 small)
+AllGoOn-more : (answers : List Answer) (a : Answer) → AllGoOn answers → IsAnswer (answer_of a) → GoesOn a → AllGoOn (answers ++ a ∷ [])
+AllGoOn-more [] a on is goes = (is, goes, tt)
+AllGoOn-more (b ∷ answers) a on is goes = (on.0, on.1, AllGoOn-more answers a on.2 is goes)
+
+LastTakesEffects-more : (answers : List Answer) (a : Answer) → TakesEffects a → LastTakesEffects (answers ++ a ∷ [])
+LastTakesEffects-more [] a takes = takes
+LastTakesEffects-more (b ∷ []) a takes = takes
+LastTakesEffects-more (b ∷ d ∷ answers) a takes = LastTakesEffects-more (d ∷ answers) a takes
 
 AreEffects-more : (effects : List Effect) (e : Effect) → AllByRecursion IsEffect (map effect_of effects) → IsEffect (effect_of e) → AllByRecursion IsEffect (map effect_of (effects ++ e ∷ []))
 AreEffects-more [] e are is = (is, tt)
 AreEffects-more (f ∷ effects) e are is = (are.0, AreEffects-more effects e are.1 is)
 
-AreRets-effect : (answers : List Answer) (e : Effect) → AreRets answers → IsEffect (effect_of e) → AreRets (last_with_effect answers e)
-AreRets-effect [] e are is = tt
-AreRets-effect (answer.Ret eax effects ∷ []) e are is = ((are.0.0, AreEffects-more effects e are.0.1 is), tt, tt)
-AreRets-effect (answer.Gone ∷ []) e are is = absurd are.1
-AreRets-effect (a ∷ b ∷ answers) e are is = (are.0, are.1, AreRets-effect (b ∷ answers) e are.2 is)
+AllGoOn-effect : (answers : List Answer) (e : Effect) → AllGoOn answers → IsEffect (effect_of e) → AllGoOn (last_with_effect answers e)
+AllGoOn-effect [] e on is = tt
+AllGoOn-effect (answer.Ret eax effects ∷ []) e on is = ((on.0.0, AreEffects-more effects e on.0.1 is), tt, tt)
+AllGoOn-effect (answer.Gone ∷ []) e on is = absurd on.1
+AllGoOn-effect (answer.Cpuid eax ebx ecx edx ∷ []) e on is = on
+AllGoOn-effect (a ∷ b ∷ answers) e on is = (on.0, on.1, AllGoOn-effect (b ∷ answers) e on.2 is)
 
-length-effect : (answers : List Answer) (e : Effect) → length (last_with_effect answers e) ≡ length answers
-length-effect [] e = refl
-length-effect (a ∷ []) e = refl
-length-effect (a ∷ b ∷ answers) e = ap suc (length-effect (b ∷ answers) e)
+TakesEffects-effect : (a : Answer) (e : Effect) → TakesEffects a → TakesEffects (with_effect a e)
+TakesEffects-effect (answer.Ret eax effects) e takes = tt
+TakesEffects-effect answer.Gone e takes = takes
+TakesEffects-effect (answer.Cpuid eax ebx ecx edx) e takes = takes
+
+LastTakesEffects-effect : (answers : List Answer) (e : Effect) → LastTakesEffects answers → LastTakesEffects (last_with_effect answers e)
+LastTakesEffects-effect [] e takes = takes
+LastTakesEffects-effect (a ∷ []) e takes = TakesEffects-effect a e takes
+LastTakesEffects-effect (a ∷ b ∷ []) e takes = TakesEffects-effect b e takes
+LastTakesEffects-effect (a ∷ b ∷ d ∷ answers) e takes = LastTakesEffects-effect (b ∷ d ∷ answers) e takes
 
 map-more : (effects : List Effect) (e : Effect) → map item.Change (effects ++ e ∷ []) ≡ map item.Change effects ++ item.Change e ∷ []
 map-more [] e = refl
@@ -85,14 +113,15 @@ args-more : (args : List (List ℕ)) (bytes : List ℕ) → map item.Arg (args +
 args-more [] bytes = refl
 args-more (a ∷ args) bytes = ap (λ t. item.Arg a ∷ t) (args-more args bytes)
 
-items-effect : (answers : List Answer) (e : Effect) → AreRets answers → 0 < length answers → flat_map answer_items (last_with_effect answers e) ≡ flat_map answer_items answers ++ item.Change e ∷ []
-items-effect [] e are some = absurd (omega arith)
-items-effect (answer.Ret eax effects ∷ []) e are some =
+items-effect : (answers : List Answer) (e : Effect) → LastTakesEffects answers → flat_map answer_items (last_with_effect answers e) ≡ flat_map answer_items answers ++ item.Change e ∷ []
+items-effect [] e takes = absurd takes
+items-effect (answer.Ret eax effects ∷ []) e takes =
     let before = map item.Change effects in
     ap (λ t. item.Ret eax ∷ t) (append-nil (map item.Change (effects ++ e ∷ [])) ∙ map-more effects e ∙ sym (append_assoc before [] (item.Change e ∷ [])))
-items-effect (answer.Gone ∷ []) e are some = absurd are.1
-items-effect (a ∷ b ∷ answers) e are some =
-    ap (λ t. answer_items a ++ t) (items-effect (b ∷ answers) e are.2 (omega arith)) ∙ sym (append_assoc (answer_items a) (flat_map answer_items (b ∷ answers)) (item.Change e ∷ []))
+items-effect (answer.Gone ∷ []) e takes = absurd takes
+items-effect (answer.Cpuid eax ebx ecx edx ∷ []) e takes = absurd takes
+items-effect (a ∷ b ∷ answers) e takes =
+    ap (λ t. answer_items a ++ t) (items-effect (b ∷ answers) e takes) ∙ sym (append_assoc (answer_items a) (flat_map answer_items (b ∷ answers)) (item.Change e ∷ []))
 
 items-answer : (args : List (List ℕ)) (answers more : List Answer) → items_of args (answers ++ more) ≡ items_of args answers ++ flat_map answer_items more
 items-answer args answers more =
@@ -119,18 +148,26 @@ adds-argument places room args bytes tied is some fits =
       items = simp append-nil (ap (λ t. item.Header ∷ t) (args-more args bytes));
     }
 
-adds-first : (places room : ℕ) (args : List (List ℕ)) (eax : ℕ) → Tied (phase.Arguments places room) args [] → eax < 2 ^ 32 → Adds (phase.Arguments places room) args [] (item.Ret eax)
-adds-first places room args eax tied small =
+-- an answer adds to arguments and to answers
+adds-ret : (p : Phase) (args : List (List ℕ)) (answers : List Answer) (eax : ℕ) → AreArguments args → AllGoOn answers → eax < 2 ^ 32 → items_so_far p args answers ≡ items_of args answers → Adds p args answers (item.Ret eax)
+adds-ret p args answers eax are on small so_far =
     record {
-      tied = (AreArguments-tied places room args tied.1 tied.2 tied.3, AreRets-more [] eax tt small, omega arith);
-      items = items-answer args [] (answer.Ret eax [] ∷ []);
+      tied = (are, AllGoOn-more answers (answer.Ret eax []) on (small, tt) tt, LastTakesEffects-more answers (answer.Ret eax []) tt);
+      items = items-answer args answers (answer.Ret eax [] ∷ []) ∙ ap (λ t. t ++ item.Ret eax ∷ []) (sym so_far);
     }
 
-adds-only-gone : (places room : ℕ) (args : List (List ℕ)) → Tied (phase.Arguments places room) args [] → Adds (phase.Arguments places room) args [] item.Gone
-adds-only-gone places room args tied =
+adds-gone : (p : Phase) (args : List (List ℕ)) (answers : List Answer) → AreArguments args → AllGoOn answers → items_so_far p args answers ≡ items_of args answers → Adds p args answers item.Gone
+adds-gone p args answers are on so_far =
     record {
-      tied = record { arguments = AreArguments-tied places room args tied.1 tied.2 tied.3; answers_keep = AreAnswers-gone [] tt };
-      items = items-answer args [] (answer.Gone ∷ []);
+      tied = record { arguments = are; answers_keep = AreAnswers-gone answers on };
+      items = items-answer args answers (answer.Gone ∷ []) ∙ ap (λ t. t ++ item.Gone ∷ []) (sym so_far);
+    }
+
+adds-cpuid : (p : Phase) (args : List (List ℕ)) (answers : List Answer) (eax ebx ecx edx : ℕ) → AreArguments args → AllGoOn answers → IsItem (item.Cpuid eax ebx ecx edx) → items_so_far p args answers ≡ items_of args answers → Adds p args answers (item.Cpuid eax ebx ecx edx)
+adds-cpuid p args answers eax ebx ecx edx are on is so_far =
+    record {
+      tied = (are, AllGoOn-more answers (answer.Cpuid eax ebx ecx edx) on is tt);
+      items = items-answer args answers (answer.Cpuid eax ebx ecx edx ∷ []) ∙ ap (λ t. t ++ item.Cpuid eax ebx ecx edx ∷ []) (sym so_far);
     }
 
 -- an item that may come adds to what was read
@@ -140,26 +177,26 @@ adds phase.Start args answers item.Header tied is fits =
 adds (phase.Arguments places room) args answers (item.Arg bytes) tied is fits =
     subst (λ s. Adds (phase.Arguments places room) args s (item.Arg bytes)) (sym tied.0) (adds-argument places room args bytes (refl, tied.1, tied.2, tied.3) is fits.0 fits.1)
 adds (phase.Arguments places room) args answers (item.Ret eax) tied is fits =
-    subst (λ s. Adds (phase.Arguments places room) args s (item.Ret eax)) (sym tied.0) (adds-first places room args eax (refl, tied.1, tied.2, tied.3) is)
+    adds-ret (phase.Arguments places room) args answers eax (AreArguments-tied places room args tied.1 tied.2 tied.3) (subst AllGoOn (sym tied.0) tt) is refl
 adds (phase.Arguments places room) args answers item.Gone tied is fits =
-    subst (λ s. Adds (phase.Arguments places room) args s item.Gone) (sym tied.0) (adds-only-gone places room args (refl, tied.1, tied.2, tied.3))
-adds phase.Answers args answers (item.Ret eax) tied is fits =
-    record {
-      tied = (tied.0, AreRets-more answers eax tied.1 is, omega (arith, length-append answers (answer.Ret eax [] ∷ [])));
-      items = items-answer args answers (answer.Ret eax [] ∷ []);
-    }
+    adds-gone (phase.Arguments places room) args answers (AreArguments-tied places room args tied.1 tied.2 tied.3) (subst AllGoOn (sym tied.0) tt) refl
+adds (phase.Arguments places room) args answers (item.Cpuid eax ebx ecx edx) tied is fits =
+    adds-cpuid (phase.Arguments places room) args answers eax ebx ecx edx (AreArguments-tied places room args tied.1 tied.2 tied.3) (subst AllGoOn (sym tied.0) tt) is refl
+adds phase.Answers args answers (item.Ret eax) tied is fits = adds-ret phase.Answers args answers eax tied.0 tied.1 is refl
 adds phase.Answers args answers (item.Change e) tied is fits =
     record {
-      tied = (tied.0, AreRets-effect answers e tied.1 is, omega (arith, length-effect answers e, tied.2));
+      tied = (tied.0, AllGoOn-effect answers e tied.1 is, LastTakesEffects-effect answers e tied.2);
       items =
-          ap (λ t. item.Header ∷ (map item.Arg args ++ t)) (items-effect answers e tied.1 tied.2)
+          ap (λ t. item.Header ∷ (map item.Arg args ++ t)) (items-effect answers e tied.2)
           ∙ ap (λ t. item.Header ∷ t) (sym (append_assoc (map item.Arg args) (flat_map answer_items answers) (item.Change e ∷ [])));
     }
-adds phase.Answers args answers item.Gone tied is fits =
-    record {
-      tied = record { arguments = tied.0; answers_keep = AreAnswers-gone answers tied.1 };
-      items = items-answer args answers (answer.Gone ∷ []);
-    }
+adds phase.Answers args answers item.Gone tied is fits = adds-gone phase.Answers args answers tied.0 tied.1 refl
+adds phase.Answers args answers (item.Cpuid eax ebx ecx edx) tied is fits =
+    adds-cpuid phase.Answers args answers eax ebx ecx edx tied.0 tied.1 is refl
+adds phase.Settled args answers (item.Ret eax) tied is fits = adds-ret phase.Settled args answers eax tied.0 tied.1 is refl
+adds phase.Settled args answers item.Gone tied is fits = adds-gone phase.Settled args answers tied.0 tied.1 refl
+adds phase.Settled args answers (item.Cpuid eax ebx ecx edx) tied is fits =
+    adds-cpuid phase.Settled args answers eax ebx ecx edx tied.0 tied.1 is refl
 adds p args answers i tied is fits = absurd fits
 
 -- what was read is a log, from the header on
@@ -173,7 +210,9 @@ log-so-far (phase.Arguments places room) args answers tied begun = (
   refl,
 )
 log-so-far phase.Answers args answers tied begun =
-    (record { arguments = tied.0; answers_keep = AreAnswers-rets answers tied.1 }, refl)
+    (record { arguments = tied.0; answers_keep = AreAnswers-on answers tied.1 }, refl)
+log-so-far phase.Settled args answers tied begun =
+    (record { arguments = tied.0; answers_keep = AreAnswers-on answers tied.1 }, refl)
 log-so-far phase.Over args answers tied begun = (tied, refl)
 
 -- the last answer with an effect more

@@ -72,6 +72,7 @@ runs-so-far phase.Start args answers tied = tt
 runs-so-far (phase.Arguments places room) args answers tied =
     log_runs args answers (log-so-far (phase.Arguments places room) args answers tied (λ e. cc)).0
 runs-so-far phase.Answers args answers tied = log_runs args answers (log-so-far phase.Answers args answers tied (λ e. cc)).0
+runs-so-far phase.Settled args answers tied = log_runs args answers (log-so-far phase.Settled args answers tied (λ e. cc)).0
 runs-so-far phase.Over args answers tied = log_runs args answers tied
 
 -- where no item may come, none does
@@ -142,6 +143,8 @@ begins-log text (phase.Arguments places room) args answers count rest was =
     begins-so-far text (phase.Arguments places room) args answers count rest was (λ e. cc)
 begins-log text phase.Answers args answers count rest was =
     begins-so-far text phase.Answers args answers count rest was (λ e. cc)
+begins-log text phase.Settled args answers count rest was =
+    begins-so-far text phase.Settled args answers count rest was (λ e. cc)
 begins-log text phase.Over args answers count rest was = begins-so-far text phase.Over args answers count rest was (λ e. cc)
 
 pub bad-line : (text : List ℕ) (p : Phase) (args : List (List ℕ)) (answers : List Answer) (count : ℕ) (rest : List ℕ) → HasRead text p args answers count rest → IsStuck p rest → (p ≡ phase.Start) ⊎ (0 < length rest) → IsBadLine text (count + 1)

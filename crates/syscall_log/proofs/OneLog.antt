@@ -21,6 +21,7 @@ args_in (item.Arg bytes ∷ items) = bytes ∷ args_in items
 args_in (item.Ret eax ∷ items) = args_in items
 args_in (item.Change e ∷ items) = args_in items
 args_in (item.Gone ∷ items) = args_in items
+args_in (item.Cpuid eax ebx ecx edx ∷ items) = args_in items
 
 -- the effects that items begin with
 effects_in : List Item → List Effect
@@ -30,6 +31,7 @@ effects_in (item.Arg bytes ∷ items) = []
 effects_in (item.Ret eax ∷ items) = []
 effects_in (item.Change e ∷ items) = e ∷ effects_in items
 effects_in (item.Gone ∷ items) = []
+effects_in (item.Cpuid eax ebx ecx edx ∷ items) = []
 
 -- the answers among items
 answers_in : List Item → List Answer
@@ -39,6 +41,7 @@ answers_in (item.Arg bytes ∷ items) = answers_in items
 answers_in (item.Ret eax ∷ items) = answer.Ret eax (effects_in items) ∷ answers_in items
 answers_in (item.Change e ∷ items) = answers_in items
 answers_in (item.Gone ∷ items) = answer.Gone ∷ answers_in items
+answers_in (item.Cpuid eax ebx ecx edx ∷ items) = answer.Cpuid eax ebx ecx edx ∷ answers_in items
 
 args_in-effects : (effects : List Effect) (items : List Item) → args_in (map item.Change effects ++ items) ≡ args_in items
 unfolding args_in
@@ -50,6 +53,7 @@ unfolding args_in
 args_in-answers [] = refl
 args_in-answers (answer.Ret eax effects ∷ answers) = args_in-effects effects (flat_map answer_items answers) ∙ args_in-answers answers
 args_in-answers (answer.Gone ∷ answers) = args_in-answers answers
+args_in-answers (answer.Cpuid eax ebx ecx edx ∷ answers) = args_in-answers answers
 
 args_in-items : (args : List (List ℕ)) (answers : List Answer) → args_in (map item.Arg args ++ flat_map answer_items answers) ≡ args
 unfolding args_in
@@ -61,6 +65,7 @@ unfolding effects_in
 effects_in-answers [] = refl
 effects_in-answers (answer.Ret eax effects ∷ answers) = refl
 effects_in-answers (answer.Gone ∷ answers) = refl
+effects_in-answers (answer.Cpuid eax ebx ecx edx ∷ answers) = refl
 
 effects_in-effects : (effects : List Effect) (answers : List Answer) → effects_in (map item.Change effects ++ flat_map answer_items answers) ≡ effects
 unfolding effects_in
@@ -79,6 +84,7 @@ answers_in-answers (answer.Ret eax effects ∷ answers) =
     ap (λ t. answer.Ret eax t ∷ answers_in (map item.Change effects ++ flat_map answer_items answers)) (effects_in-effects effects answers)
     ∙ ap (λ t. answer.Ret eax effects ∷ t) (answers_in-effects effects (flat_map answer_items answers) ∙ answers_in-answers answers)
 answers_in-answers (answer.Gone ∷ answers) = ap (λ t. answer.Gone ∷ t) (answers_in-answers answers)
+answers_in-answers (answer.Cpuid eax ebx ecx edx ∷ answers) = ap (λ t. answer.Cpuid eax ebx ecx edx ∷ t) (answers_in-answers answers)
 
 answers_in-items : (args : List (List ℕ)) (answers : List Answer) → answers_in (map item.Arg args ++ flat_map answer_items answers) ≡ answers
 unfolding answers_in

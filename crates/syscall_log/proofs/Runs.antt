@@ -47,9 +47,13 @@ AreItems-run p (i ∷ items) run = (run.0, AreItems-run (phase_after p i) items 
 record Answers (p : Phase) : Type 0 where
   value : (eax : ℕ) → Fits p (item.Ret eax)
   gone : Fits p item.Gone
+  cpuid : (eax ebx ecx edx : ℕ) → Fits p (item.Cpuid eax ebx ecx edx)
 
 after_answer : Answers phase.Answers
-after_answer = record { value = λ eax. tt; gone = tt }
+after_answer = record { value = λ eax. tt; gone = tt; cpuid = λ eax ebx ecx edx. tt }
+
+after_cpuid : Answers phase.Settled
+after_cpuid = record { value = λ eax. tt; gone = tt; cpuid = λ eax ebx ecx edx. tt }
 
 -- effects run behind an answer
 effects_run : (effects : List Effect) (more : List Item) → AllByRecursion IsEffect (map effect_of effects) → MayRun phase.Answers more → MayRun phase.Answers (map item.Change effects ++ more)
@@ -64,6 +68,8 @@ answers_run p (answer.Gone ∷ answers) may are = (tt, may.gone, none answers ar
   none : (answers : List Answer) → length answers ≡ 0 → MayRun phase.Over (flat_map answer_items answers)
   none [] e = tt
   none (a ∷ answers) e = absurd (omega arith)
+answers_run p (answer.Cpuid eax ebx ecx edx ∷ answers) may are =
+    (are.0, may.cpuid eax ebx ecx edx, answers_run phase.Settled answers after_cpuid are.2)
 
 -- the bytes of arguments, with one ending zero each
 abbrev pub bytes_of : List (List ℕ) → ℕ
@@ -71,7 +77,7 @@ bytes_of args = sum_by (λ a. length a + 1) args
 
 arguments_run : (places room : ℕ) (args : List (List ℕ)) (answers : List Answer) → length args ≤ places → bytes_of args ≤ room → All IsArgument args → AreAnswers answers → MayRun (phase.Arguments places room) (map item.Arg args ++ flat_map answer_items answers)
 arguments_run places room [] answers few short each are =
-    answers_run (phase.Arguments places room) answers (record { value = λ eax. tt; gone = tt }) are
+    answers_run (phase.Arguments places room) answers (record { value = λ eax. tt; gone = tt; cpuid = λ eax ebx ecx edx. tt }) are
 arguments_run places room (a ∷ args) answers few short each are =
     let sum = sum_by-cons (λ a. length a + 1) a args in (
       each zero a (omega arith),

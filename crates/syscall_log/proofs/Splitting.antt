@@ -58,7 +58,12 @@ one_line-item (item.Change (effect.Map lo len m bytes)) =
     one_line-number lo (32 ∷ (number_text len ++ 32 ∷ (mode_text m ++ 32 ∷ bytes_text bytes))) (
     one_line-number len (32 ∷ (mode_text m ++ 32 ∷ bytes_text bytes)) (one_line-mode m (32 ∷ bytes_text bytes) (one_line-bytes bytes)))
 one_line-item (item.Change (effect.Unmap lo len)) = one_line-number lo (32 ∷ number_text len) (one_line-word len)
+one_line-item (item.Change (effect.Desc index base)) = one_line-number index (32 ∷ number_text base) (one_line-word base)
 one_line-item item.Gone = refl
+one_line-item (item.Cpuid eax ebx ecx edx) =
+    one_line-number eax (32 ∷ (number_text ebx ++ 32 ∷ (number_text ecx ++ 32 ∷ number_text edx))) (
+    one_line-number ebx (32 ∷ (number_text ecx ++ 32 ∷ number_text edx)) (
+    one_line-number ecx (32 ∷ number_text edx) (one_line-word edx)))
 
 -- a line feed is in no line
 feed-apart : (c : ℕ) (text : List ℕ) → one_line (c ∷ text) ≡ true → 10 ≡ c → ⊥

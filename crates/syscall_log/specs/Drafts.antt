@@ -12,11 +12,13 @@ args_with args (item.Arg bytes) = args ++ bytes ∷ []
 args_with args (item.Ret eax) = args
 args_with args (item.Change effect) = args
 args_with args item.Gone = args
+args_with args (item.Cpuid eax ebx ecx edx) = args
 
--- an answer with an effect more
+-- an answer with an effect more, if it takes effects
 abbrev pub with_effect : Answer → Effect → Answer
 with_effect (answer.Ret eax effects) e = answer.Ret eax (effects ++ e ∷ [])
 with_effect answer.Gone e = answer.Gone
+with_effect (answer.Cpuid eax ebx ecx edx) e = answer.Cpuid eax ebx ecx edx
 
 -- answers of which the last has an effect more
 abbrev pub last_with_effect : List Answer → Effect → List Answer
@@ -30,3 +32,4 @@ answers_with answers (item.Arg bytes) = answers
 answers_with answers (item.Ret eax) = answers ++ answer.Ret eax [] ∷ []
 answers_with answers (item.Change effect) = last_with_effect answers effect
 answers_with answers item.Gone = answers ++ answer.Gone ∷ []
+answers_with answers (item.Cpuid eax ebx ecx edx) = answers ++ answer.Cpuid eax ebx ecx edx ∷ []

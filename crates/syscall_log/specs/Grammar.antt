@@ -39,6 +39,7 @@ effect_words (effect.Write lo bytes) = codes "write" ∷ number_text lo ∷ hex_
 effect_words (effect.Map lo len mode bytes) =
     codes "map" ∷ number_text lo ∷ number_text len ∷ mode_text mode ∷ bytes_text bytes ∷ []
 effect_words (effect.Unmap lo len) = codes "unmap" ∷ number_text lo ∷ number_text len ∷ []
+effect_words (effect.Desc index base) = codes "desc" ∷ number_text index ∷ number_text base ∷ []
 
 -- the words of an item's line
 abbrev pub item_words : Item → List (List ℕ)
@@ -47,6 +48,8 @@ item_words (item.Arg bytes) = codes "arg" ∷ bytes_text bytes ∷ []
 item_words (item.Ret eax) = codes "ret" ∷ number_text eax ∷ []
 item_words (item.Change effect) = effect_words effect
 item_words item.Gone = codes "gone" ∷ []
+item_words (item.Cpuid eax ebx ecx edx) =
+    codes "cpuid" ∷ number_text eax ∷ number_text ebx ∷ number_text ecx ∷ number_text edx ∷ []
 
 -- an item's line, without its line feed
 abbrev pub line_of : Item → List ℕ
@@ -60,6 +63,7 @@ lines items = flat_map (λ i. line_of i ++ 10 ∷ []) items
 abbrev pub answer_items : Answer → List Item
 answer_items (answer.Ret eax effects) = item.Ret eax ∷ map item.Change effects
 answer_items answer.Gone = item.Gone ∷ []
+answer_items (answer.Cpuid eax ebx ecx edx) = item.Cpuid eax ebx ecx edx ∷ []
 
 -- the items of a log: the header, the arguments, the answers
 abbrev pub items_of : List (List ℕ) → List Answer → List Item

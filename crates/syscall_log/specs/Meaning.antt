@@ -1,4 +1,4 @@
--- What the values of a log mean on a memory of cells. This project's own.
+-- What the values of a log mean on a memory of cells and its descriptors. This project's own.
 use Rattle.std.specs.Prelude.{Bool, true, false, List, map}
 use Rattle.mv_base.specs.Effects.{Mode, Effect, Answer}
 use Rattle.mv_base.specs.Effects as cells
@@ -18,10 +18,12 @@ abbrev pub effect_of : Change → Effect
 effect_of (effect.Write lo bytes) = cells.WriteAt lo bytes
 effect_of (effect.Map lo len mode bytes) = cells.MapAt lo len (mode_of mode) bytes
 effect_of (effect.Unmap lo len) = cells.UnmapAt lo len
+effect_of (effect.Desc index base) = cells.DescAt index base
 
 abbrev pub answer_of : Reply → Answer
 answer_of (answer.Ret eax effects) = cells.Ret eax (map effect_of effects)
 answer_of answer.Gone = cells.Gone
+answer_of (answer.Cpuid eax ebx ecx edx) = cells.Cpuid eax ebx ecx edx
 
 -- the answers, the first that is taken in front
 abbrev pub answers_of : List Reply → List Answer
@@ -30,3 +32,4 @@ answers_of replies = map answer_of replies
 abbrev pub is_gone : Reply → Bool
 is_gone (answer.Ret eax effects) = false
 is_gone answer.Gone = true
+is_gone (answer.Cpuid eax ebx ecx edx) = false

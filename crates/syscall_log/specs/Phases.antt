@@ -15,16 +15,22 @@ IsItem (item.Arg bytes) = IsArgument bytes
 IsItem (item.Ret eax) = eax < 2 ^ 32
 IsItem (item.Change effect) = IsEffect (effect_of effect)
 IsItem item.Gone = ⊤
+IsItem (item.Cpuid eax ebx ecx edx) = (eax < 2 ^ 32) × (ebx < 2 ^ 32) × (ecx < 2 ^ 32) × (edx < 2 ^ 32)
 
--- an item may come in its place: the header first, arguments while there is room, effects behind an answer
+-- an item may come in its place: the header first, arguments while there is room, effects behind an answer that takes them
 abbrev pub Fits : Phase → Item → Type 0
 Fits phase.Start item.Header = ⊤
 Fits (phase.Arguments places room) (item.Arg bytes) = (0 < places) × (length bytes < room)
 Fits (phase.Arguments places room) (item.Ret eax) = ⊤
 Fits (phase.Arguments places room) item.Gone = ⊤
+Fits (phase.Arguments places room) (item.Cpuid eax ebx ecx edx) = ⊤
 Fits phase.Answers (item.Ret eax) = ⊤
 Fits phase.Answers (item.Change effect) = ⊤
 Fits phase.Answers item.Gone = ⊤
+Fits phase.Answers (item.Cpuid eax ebx ecx edx) = ⊤
+Fits phase.Settled (item.Ret eax) = ⊤
+Fits phase.Settled item.Gone = ⊤
+Fits phase.Settled (item.Cpuid eax ebx ecx edx) = ⊤
 Fits _ _ = ⊥
 
 -- an item may come
@@ -43,3 +49,4 @@ phase_after p (item.Arg bytes) = with_argument p bytes
 phase_after p (item.Ret eax) = phase.Answers
 phase_after p (item.Change effect) = phase.Answers
 phase_after p item.Gone = phase.Over
+phase_after p (item.Cpuid eax ebx ecx edx) = phase.Settled

@@ -74,12 +74,27 @@ map_in text =
 unfoldable pub unmap_in : List ℕ → Option Effect
 unmap_in text = option_and_then (λ (lo, rest). option_map (λ len. effect.Unmap lo len) (number_in rest)) (number_and text)
 
+unfoldable pub desc_in : List ℕ → Option Effect
+desc_in text =
+    option_and_then (λ (index, rest). option_map (λ base. effect.Desc index base) (number_in rest)) (number_and text)
+
 -- the effect of a line
 unfoldable pub effect_in : List ℕ → Option Effect
 effect_in line =
     option_map_or write_in (behind (codes "write ") line) (
     option_map_or map_in (behind (codes "map ") line) (
-    option_map_or unmap_in (behind (codes "unmap ") line) None))
+    option_map_or unmap_in (behind (codes "unmap ") line) (
+    option_map_or desc_in (behind (codes "desc ") line) None)))
+
+-- what follows the word of an answer to CPUID
+unfoldable pub cpuid_in : List ℕ → Option Item
+cpuid_in text =
+    option_and_then (λ (eax, rest).
+    option_and_then (λ (ebx, rest').
+    option_and_then (λ (ecx, rest''). option_map (λ edx. item.Cpuid eax ebx ecx edx) (number_in rest''))
+    (number_and rest'))
+    (number_and rest))
+    (number_and text)
 
 -- the item of a line
 unfoldable pub item_in : List ℕ → Option Item
@@ -88,4 +103,5 @@ item_in line =
     else (if bytes_eq line (codes "gone") then Some item.Gone
     else (option_map_or (λ text. option_map item.Arg (bytes_in text)) (behind (codes "arg ") line) (
     option_map_or (λ text. option_map item.Ret (number_in text)) (behind (codes "ret ") line) (
-    option_map item.Change (effect_in line)))))
+    option_map_or cpuid_in (behind (codes "cpuid ") line) (
+    option_map item.Change (effect_in line))))))

@@ -5,7 +5,7 @@ use Rattle.std.proofs.Common.{arith}
 use Rattle.std.proofs.Props.{props}
 use Rattle.std.specs.Coded.{×_prop, Unit-prop, le_prop}
 use Rattle.mv_base.specs.Bytes.{AreBytes}
-use Rattle.mv_base.specs.Effects.{IsEffect, IsAnswer, Effect, Answer}
+use Rattle.mv_base.specs.Effects.{IsEffect, IsAnswer, IsDescriptor, IsSome, Effect, Answer}
 use Rattle.mv_base.specs.Effects as cells
 use Rattle.syscall_log.specs.declared.effect.Effect.{Effect as Change}
 use Rattle.syscall_log.specs.declared.answer.Answer.{Answer as Reply}
@@ -29,6 +29,7 @@ pub record AreArguments (args : List (List ℕ)) : Type 0 where
 abbrev pub MayFollow : Answer → List Reply → Type 0
 MayFollow (cells.Ret eax effects) rest = Unit {0}
 MayFollow cells.Gone rest = length rest ≡ 0
+MayFollow (cells.Cpuid eax ebx ecx edx) rest = Unit {0}
 
 -- each answer keeps its bounds, and only the last ends the program
 abbrev pub AreAnswers : List Reply → Type 0
@@ -57,16 +58,27 @@ IsAnswer-at (a ∷ rest) zero d keep below = keep.0
 IsAnswer-at (a ∷ rest) (suc i) d keep below = IsAnswer-at rest i d keep.2 (omega arith)
 
 -- two proofs that an effect keeps its bounds are equal
+IsDescriptor-prop : (index base : ℕ) → IsProp (IsDescriptor index base)
+IsDescriptor-prop index base = hlevel props
+
+IsSome-prop : (e : Effect) → IsProp (IsSome e)
+IsSome-prop (cells.WriteAt lo bytes) = le_prop
+IsSome-prop (cells.MapAt lo len mode bytes) = le_prop
+IsSome-prop (cells.UnmapAt lo len) = le_prop
+IsSome-prop (cells.DescAt index base) = IsDescriptor-prop index base
+
 IsEffect-prop : (e : Effect) → IsProp (IsEffect e)
-IsEffect-prop e = hlevel props
+IsEffect-prop e = hlevel (props, IsSome-prop e)
 
 IsAnswer-prop : (a : Answer) → IsProp (IsAnswer a)
 IsAnswer-prop (cells.Ret eax es) = ×_prop le_prop (AllByRecursion-prop IsEffect IsEffect-prop es)
 IsAnswer-prop cells.Gone = Unit-prop
+IsAnswer-prop (cells.Cpuid eax ebx ecx edx) = hlevel props
 
 MayFollow-prop : (a : Answer) (rest : List Reply) → IsProp (MayFollow a rest)
 MayFollow-prop (cells.Ret eax es) rest = Unit-prop
 MayFollow-prop cells.Gone rest = hlevel props
+MayFollow-prop (cells.Cpuid eax ebx ecx edx) rest = Unit-prop
 
 AreAnswers-prop : (answers : List Reply) → IsProp (AreAnswers answers)
 AreAnswers-prop [] = Unit-prop

@@ -1,4 +1,4 @@
-//! The answers to system calls.
+//! The answers to system calls and to CPUID.
 
 ghost use Rattle.std.specs.Prelude.{◌≡◌, ◌↔◌, IsTrue, [], length};
 ghost use Rattle.std.specs.List.{All};
@@ -8,13 +8,23 @@ ghost use Rattle.syscall_log.specs.Meaning.{answer_of, effect_of, is_gone};
 use crate::effect::{Effect, Effects};
 use std::marker::Model;
 
-/// What a system call gets.
+/// What a system call gets, or CPUID.
 #[derive(Drop)]
 pub enum Answer {
     /// A value for EAX, after some effects.
-    Ret { eax: u32, effects: Effects },
+    Ret {
+        eax: u32,
+        effects: Effects,
+    },
     /// The end of the program.
     Gone,
+    /// The values that CPUID gives.
+    Cpuid {
+        eax: u32,
+        ebx: u32,
+        ecx: u32,
+        edx: u32,
+    },
 }
 
 impl Answer {
@@ -28,6 +38,10 @@ impl Answer {
                 keep_bounds(effects.as_slice())
             }
             Answer::Gone => true,
+            Answer::Cpuid { eax, ebx, ecx, edx } => {
+                let _values = (*eax, *ebx, *ecx, *edx);
+                true
+            }
         }
     }
 

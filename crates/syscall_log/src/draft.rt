@@ -52,6 +52,9 @@ impl Draft {
                 }
             }
             Item::Gone => self.answers.push(Answer::Gone)?,
+            Item::Cpuid { eax, ebx, ecx, edx } => self
+                .answers
+                .push(Answer::Cpuid { eax, ebx, ecx, edx })?,
         }
         Ok(())
     }
@@ -69,7 +72,7 @@ impl Draft {
     }
 }
 
-/// An answer with an effect more.
+/// An answer with an effect more, if it takes effects.
 fn changed(answer: Answer, effect: Effect) -> Result<Answer, NoMemory>
     ensures { IfOk result (λ a. a ≡ with_effect answer effect) }
 {
@@ -83,5 +86,6 @@ fn changed(answer: Answer, effect: Effect) -> Result<Answer, NoMemory>
             })
         }
         Answer::Gone => Ok(Answer::Gone),
+        Answer::Cpuid { eax, ebx, ecx, edx } => Ok(Answer::Cpuid { eax, ebx, ecx, edx }),
     }
 }

@@ -1,4 +1,4 @@
-//! What an answer does to memory.
+//! What an answer does to memory and descriptors.
 
 ghost use Rattle.std.specs.Prelude.{◌≡◌, ◌+◌, ◌<◌, ◌≤◌, ◌↔◌, IsTrue, [], length};
 ghost use Rattle.mv_base.specs.Bytes.{AreBytes};
@@ -16,7 +16,7 @@ pub enum Mode {
     Exec,
 }
 
-/// A change of memory. A range has at least one address and ends at most at 0xFFFFF000.
+/// A change of memory or of a descriptor. A range has at least one address and ends at most at 0xFFFFF000.
 #[derive(Drop)]
 pub enum Effect {
     /// Bytes written to mapped cells from `lo` on.
@@ -36,10 +36,16 @@ pub enum Effect {
         lo: u32,
         len: u32,
     },
+    /// The base of the descriptor with this index, from 1 to 8,191, in place of an older one.
+    Desc {
+        index: u32,
+        base: u32,
+    },
 }
 
 impl Effect {
-    /// Whether the range has an address and ends at most at 0xFFFFF000, and has room for the bytes.
+    /// Whether the range has an address and ends at most at 0xFFFFF000, and has room for the bytes; of a descriptor, whether
+    /// its index is from 1 to 8,191.
     pub fn keeps_bounds(&self) -> bool
         ensures { IsTrue result ↔ IsEffect (effect_of self.now) }
     {
@@ -52,12 +58,19 @@ impl Effect {
                 bytes,
             } => in_bounds(*lo, u64::from(*len), bytes),
             Effect::Unmap { lo, len } => is_range(*lo, u64::from(*len)),
+            Effect::Desc { index, base } => {
+                let _value = *base;
+                0 < *index && *index <= LAST_INDEX
+            }
         }
     }
 }
 
 /// The first address that no memory has.
 const LIMIT: u64 = 0xFFFF_F000;
+
+/// The highest index of a descriptor.
+const LAST_INDEX: u32 = 8_191;
 
 /// Whether `len` addresses from `lo` on are a range, and have room for the bytes.
 fn in_bounds(lo: u32, len: u64, bytes: &Bytes) -> bool

@@ -12,8 +12,15 @@ pub enum Item {
     Arg(Bytes),
     /// An answer, by its value for EAX.
     Ret(u32),
-    /// An effect of the answer before it.
+    /// An effect of the answer before it, which has a value for EAX.
     Change(Effect),
     /// The answer that ends the program.
     Gone,
+    /// An answer to CPUID.
+    Cpuid {
+        eax: u32,
+        ebx: u32,
+        ecx: u32,
+        edx: u32,
+    },
 }

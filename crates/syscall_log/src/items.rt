@@ -3,7 +3,7 @@
 ghost use Rattle.std.specs.Prelude.{◌≡◌, IfOk, IfErr, IfSome, IfNone};
 ghost use Rattle.syscall_log.specs.declared.fault.LineFault.TheVariants as fault;
 ghost use Rattle.syscall_log.specs.Following.{Continues, HasNoLine, IsFirstLine, IsStuck};
-ghost use Rattle.syscall_log.specs.Reading.{effect_in, item_in, map_in, unmap_in, write_in};
+ghost use Rattle.syscall_log.specs.Reading.{cpuid_in, desc_in, effect_in, item_in, map_in, unmap_in, write_in};
 ghost use Rattle.syscall_log.specs.Reads.{Reads};
 
 use crate::effect::Effect;
@@ -63,6 +63,8 @@ fn read_item(alloc: Global, line: &[u8]) -> Result<Item, LineFault>
         Ok(Item::Arg(bytes(alloc, text)?))
     } else if let Some(text) = behind(b"ret ", line) {
         Ok(Item::Ret(number(text).ok_or(LineFault::Unknown)?))
+    } else if let Some(text) = behind(b"cpuid ", line) {
+        read_cpuid(text)
     } else {
         Ok(Item::Change(read_effect(alloc, line)?))
     }
@@ -79,6 +81,8 @@ fn read_effect(alloc: Global, line: &[u8]) -> Result<Effect, LineFault>
         read_map(alloc, text)
     } else if let Some(text) = behind(b"unmap ", line) {
         read_unmap(text)
+    } else if let Some(text) = behind(b"desc ", line) {
+        read_desc(text)
     } else {
         Err(LineFault::Unknown)
     }
@@ -119,4 +123,26 @@ fn read_unmap(text: &[u8]) -> Result<Effect, LineFault>
     let (lo, text) = number_and(text).ok_or(LineFault::Unknown)?;
     let len = number(text).ok_or(LineFault::Unknown)?;
     Ok(Effect::Unmap { lo, len })
+}
+
+/// The same for `desc`.
+#[tactic(auto, unfolding(crate::specs::Reading::desc_in))]
+fn read_desc(text: &[u8]) -> Result<Effect, LineFault>
+    ensures { Reads (desc_in text.now) result }
+{
+    let (index, text) = number_and(text).ok_or(LineFault::Unknown)?;
+    let base = number(text).ok_or(LineFault::Unknown)?;
+    Ok(Effect::Desc { index, base })
+}
+
+/// The item of a line that begins with `cpuid` and a space, by the text behind them.
+#[tactic(auto, unfolding(crate::specs::Reading::cpuid_in))]
+fn read_cpuid(text: &[u8]) -> Result<Item, LineFault>
+    ensures { Reads (cpuid_in text.now) result }
+{
+    let (eax, text) = number_and(text).ok_or(LineFault::Unknown)?;
+    let (ebx, text) = number_and(text).ok_or(LineFault::Unknown)?;
+    let (ecx, text) = number_and(text).ok_or(LineFault::Unknown)?;
+    let edx = number(text).ok_or(LineFault::Unknown)?;
+    Ok(Item::Cpuid { eax, ebx, ecx, edx })
 }

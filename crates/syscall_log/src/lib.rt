@@ -1,6 +1,7 @@
-//! What a traced program is given from outside: its arguments, and the answers to its system calls; and the text of both.
+//! What a traced program is given from outside: its arguments, and the answers to its system calls and to CPUID; and the
+//! text of all.
 //!
-//! `effect` has what an answer does to memory, `answer` the answers, `args` the arguments, `log` all of it with the bounds
+//! `effect` has what an answer does to memory and descriptors, `answer` the answers, `args` the arguments, `log` all of it with the bounds
 //! that a log keeps. The definitions in specs/ say what each value means on a memory of cells, and a log's whole text as a
 //! list of items, one a line (`Grammar`); no reader is in them.
 //!

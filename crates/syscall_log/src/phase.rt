@@ -16,6 +16,8 @@ pub(crate) enum Phase {
     Arguments { places: usize, room: usize },
     /// An answer, which may get effects.
     Answers,
+    /// An answer that gets no effects.
+    Settled,
     /// The end of the program.
     Over,
 }
@@ -45,11 +47,20 @@ impl Phase {
             (Phase::Answers, Item::Change(effect)) => {
                 effect.keeps_bounds().then_some(Phase::Answers)
             }
-            (Phase::Arguments { .. } | Phase::Answers, Item::Ret(eax)) => {
+            (Phase::Arguments { .. } | Phase::Answers | Phase::Settled, Item::Ret(eax)) => {
                 let _value = *eax;
                 Some(Phase::Answers)
             }
-            (Phase::Arguments { .. } | Phase::Answers, Item::Gone) => Some(Phase::Over),
+            (Phase::Arguments { .. } | Phase::Answers | Phase::Settled, Item::Gone) => {
+                Some(Phase::Over)
+            }
+            (
+                Phase::Arguments { .. } | Phase::Answers | Phase::Settled,
+                Item::Cpuid { eax, ebx, ecx, edx },
+            ) => {
+                let _values = (*eax, *ebx, *ecx, *edx);
+                Some(Phase::Settled)
+            }
             _ => None,
         }
     }

@@ -125,6 +125,28 @@ fn texts(rt: HostRuntime) -> Result<(), Fail> {
             b"log 1\nret 00000000\nmap 40000000 00001000 x -\n".as_slice(),
             0,
         ),
+        (
+            b"log 1\nret 00000000\ndesc 00000001 00000000\ndesc 00001fff ffffffff\n".as_slice(),
+            0,
+        ),
+        (
+            b"log 1\ncpuid 00000001 00000002 00000003 ffffffff\nret 00000000\n".as_slice(),
+            0,
+        ),
+        (
+            b"log 1\nret 00000000\ndesc 00000000 00000000\n".as_slice(),
+            3,
+        ),
+        (
+            b"log 1\nret 00000000\ndesc 00002000 00000000\n".as_slice(),
+            3,
+        ),
+        (
+            b"log 1\ncpuid 00000001 00000002 00000003 00000004\ndesc 00000006 00000000\n".as_slice(),
+            3,
+        ),
+        (b"log 1\ngone\ndesc 00000006 00000000\n".as_slice(), 3),
+        (b"log 1\ncpuid 00000001 00000002 00000003\n".as_slice(), 2),
     ];
     for (text, line) in rows {
         assert_eq!(rt; faulty_line(rt.alloc(), text)?, line);

@@ -61,6 +61,11 @@ fn put_answer(answer: &Answer, to: &mut Vec<u8>) -> Result<(), NoMemory>
             to.extend_from_slice(b"gone\n")?;
             Ok(())
         }
+        Answer::Cpuid { eax, ebx, ecx, edx } => {
+            put_cpuid(*eax, *ebx, *ecx, *edx, to)?;
+            to.push(b'\n')?;
+            Ok(())
+        }
     }
 }
 
@@ -72,6 +77,18 @@ fn put_ret(eax: u32, to: &mut Vec<u8>) -> Result<(), NoMemory>
     put_number(eax, to)?;
     to.push(b'\n')?;
     Ok(())
+}
+
+/// Appends the words of an answer to CPUID.
+fn put_cpuid(eax: u32, ebx: u32, ecx: u32, edx: u32, to: &mut Vec<u8>) -> Result<(), NoMemory>
+    ensures { OnOk result (to.new.items
+        ≡ to.old.items ++ line_of (item.Cpuid eax ebx ecx edx)) }
+{
+    to.extend_from_slice(b"cpuid ")?;
+    put_number_and(eax, to)?;
+    put_number_and(ebx, to)?;
+    put_number_and(ecx, to)?;
+    put_number(edx, to)
 }
 
 /// Appends the lines of effects.
@@ -97,6 +114,7 @@ fn put_effect(change: &Effect, to: &mut Vec<u8>) -> Result<(), NoMemory>
             bytes,
         } => put_map(*lo, *len, *mode, bytes, to)?,
         Effect::Unmap { lo, len } => put_unmap(*lo, *len, to)?,
+        Effect::Desc { index, base } => put_desc(*index, *base, to)?,
     }
     to.push(b'\n')?;
     Ok(())
@@ -132,6 +150,16 @@ fn put_unmap(lo: u32, len: u32, to: &mut Vec<u8>) -> Result<(), NoMemory>
     to.extend_from_slice(b"unmap ")?;
     put_number_and(lo, to)?;
     put_number(len, to)
+}
+
+/// Appends the words of a descriptor.
+fn put_desc(index: u32, base: u32, to: &mut Vec<u8>) -> Result<(), NoMemory>
+    ensures { OnOk result (to.new.items
+        ≡ to.old.items ++ line_of (item.Change (effect.Desc index base))) }
+{
+    to.extend_from_slice(b"desc ")?;
+    put_number_and(index, to)?;
+    put_number(base, to)
 }
 
 /// Appends a number in eight digits.
