@@ -3,7 +3,7 @@
 //! Each function takes the bytes from ModRM on, and a byte that is missing counts as 0.
 
 ghost use Rattle.std.specs.Prelude.{◌≡◌, ◌≤◌, ◌<◌};
-ghost use Rattle.x86_insn.specs.Addressing.{byte_at, dword_at, sign_extended, reg_of, mod_field, reg_field, rm_field, names_memory, has_sib, base_number, has_base, has_index, displacement_place, displacement_length, displacement_bytes, displacement_of, address_length, factor_of, memory_of, rm_of};
+ghost use Rattle.x86_insn.specs.Addressing.{byte_at, dword_at, sign_extended, reg_of, mod_field, reg_field, rm_field, names_memory, has_sib, base_number, has_base, has_index, displacement_place, displacement_length, displacement_bytes, displacement_of, address_length, factor_of, memory_of, rm_of, with_gs};
 
 use x86_insn::{Mem, Reg, Rm};
 
@@ -168,9 +168,10 @@ fn factor(scale: u8) -> u8
     }
 }
 
+// The memory operand, relative to GS or not.
 #[inline(always)]
-fn memory(bytes: &[u8]) -> Mem
-    ensures { result ≡ memory_of bytes.now }
+fn memory(bytes: &[u8], gs: bool) -> Mem
+    ensures { result ≡ record (memory_of bytes.now) { gs = gs } }
 {
     let sib = byte_at(bytes, 1);
     Mem {
@@ -185,16 +186,17 @@ fn memory(bytes: &[u8]) -> Mem
             None
         },
         disp: displacement(bytes, displacement_length(bytes)),
+        gs,
     }
 }
 
-/// The operand: a register or memory.
+/// The operand: a register, or memory that is relative to GS or not.
 #[inline(always)]
-pub fn operand(bytes: &[u8]) -> Rm
-    ensures { result ≡ rm_of bytes.now }
+pub fn operand(bytes: &[u8], gs: bool) -> Rm
+    ensures { result ≡ with_gs gs (rm_of bytes.now) }
 {
     if names_memory(bytes) {
-        Rm::M(memory(bytes))
+        Rm::M(memory(bytes, gs))
     } else {
         Rm::R(register(rm_field(bytes)))
     }

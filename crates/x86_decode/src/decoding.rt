@@ -11,7 +11,7 @@ use crate::choice::{Choice, choose};
 use crate::form::{operands_of, scan_forms, scan_operands};
 use crate::meaning::meaning;
 use crate::opcode_map::{hint, interrupt, one_byte, two_byte};
-use crate::prefixes::{marks_of, may_stand_together, prefix_count};
+use crate::prefixes::{asks_memory, marks_of, may_stand_together, prefix_count};
 use crate::reading::Reading;
 use x86_insn::row::Marks;
 use x86_insn::{Insn, Rep};
@@ -145,24 +145,24 @@ fn scan_two_byte(opcode: u8, bytes: &[u8], marks: Marks) -> Reading
     scan_forms(two_byte(opcode), marks, opcode, bytes)
 }
 
-// No byte is there behind the prefixes. LOCK asks for a ModRM byte.
+// No byte is there behind the prefixes. LOCK and GS ask for an operand byte.
 fn lacks_opcode(marks: Marks) -> Reading
     ensures is { scan_of result ≡ scan_rest (rows_behind []) marks [] }
     ensures len { len_of (scan_of result) ≤ 2 }
 {
-    match (marks.lock, marks.rep) {
+    match (asks_memory(marks), marks.rep) {
         (false, _) => Reading::More { len: 1 },
         (true, Rep::Once) => Reading::More { len: 2 },
         (true, Rep::F3) | (true, Rep::F2) => Reading::Nothing,
     }
 }
 
-// No byte is there behind 0F: UD2 takes no prefix but those of the segments, and ENDBR32 takes F3.
+// No byte is there behind 0F: UD2 takes no prefix that sets anything, and ENDBR32 takes F3.
 fn lacks_escaped(marks: Marks) -> Reading
     ensures is { scan_of result ≡ scan_rest (rows_behind (0x0F ∷ [])) marks [] }
     ensures len { len_of (scan_of result) ≤ 2 }
 {
-    match (marks.rep, marks.lock, marks.word) {
+    match (marks.rep, asks_memory(marks), marks.word) {
         (Rep::Once, false, false) => Reading::More { len: 1 },
         (Rep::Once, _, _) | (Rep::F3, false, false) => Reading::More { len: 2 },
         (Rep::F3, _, _) | (Rep::F2, _, _) => Reading::Nothing,
@@ -174,7 +174,7 @@ fn lacks_number(marks: Marks) -> Reading
     ensures is { scan_of result ≡ scan_rest (rows_behind (0xCD ∷ [])) marks [] }
     ensures len { len_of (scan_of result) ≤ 1 }
 {
-    match (marks.rep, marks.lock, marks.word) {
+    match (marks.rep, asks_memory(marks), marks.word) {
         (Rep::Once, false, false) => Reading::More { len: 1 },
         _ => Reading::Nothing,
     }
@@ -185,7 +185,7 @@ fn lacks_hint(marks: Marks) -> Reading
     ensures is { scan_of result ≡ scan_rest (rows_behind (0x0F ∷ 0x1E ∷ [])) marks [] }
     ensures len { len_of (scan_of result) ≤ 1 }
 {
-    match (marks.rep, marks.lock, marks.word) {
+    match (marks.rep, asks_memory(marks), marks.word) {
         (Rep::F3, false, false) => Reading::More { len: 1 },
         _ => Reading::Nothing,
     }

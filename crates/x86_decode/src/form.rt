@@ -11,6 +11,7 @@ use crate::address::{
     address_length, byte_at, dword_at, names_memory, operand, reg_field, register, sign_extended,
 };
 use crate::meaning::meaning;
+use crate::prefixes::asks_memory;
 use crate::reading::Reading;
 use x86_insn::Width;
 use x86_insn::row::{Form, Immediate, Layout, Marks, Operands};
@@ -101,7 +102,7 @@ pub fn operand_length(form: &Form, marks: Marks, bytes: &[u8]) -> usize
     immediate_place(form, bytes) + immediate_length(form.immediate, form.size.width(marks.word))
 }
 
-// ModRM is one of the form's; F0 asks for memory.
+// ModRM is one of the form's, and names memory where the prefixes ask for it.
 #[inline(always)]
 pub fn takes_modrm(form: &Form, marks: Marks, bytes: &[u8]) -> bool
     ensures { result ≡ takes_modrm form.now marks bytes.now }
@@ -109,7 +110,7 @@ pub fn takes_modrm(form: &Form, marks: Marks, bytes: &[u8]) -> bool
     let modrm = from_modrm(form, bytes);
     takes_digit(form.digit, reg_field(modrm))
         && form.layout.takes(names_memory(modrm))
-        && (!marks.lock || names_memory(modrm))
+        && (!asks_memory(marks) || names_memory(modrm))
 }
 
 #[inline(always)]
@@ -123,7 +124,7 @@ pub fn operands_of(form: &Form, marks: Marks, opcode: u8, bytes: &[u8]) -> Opera
         marks,
         opcode,
         reg: register(reg_field(modrm)),
-        rm: operand(modrm),
+        rm: operand(modrm, marks.gs),
         immediate: immediate_of(form.immediate, width, bytes, immediate_place(form, bytes)),
     }
 }

@@ -1,11 +1,11 @@
 //! What each kind of form spells, of the operands that the bytes name. Intel SDM, volume 2.
 
 ghost use Rattle.std.specs.Prelude.{◌≡◌, ◌<◌};
-ghost use Rattle.x86_insn.specs.Meaning.{cond_of, source_of, at_address, memory_in, meaning};
+ghost use Rattle.x86_insn.specs.Meaning.{cond_of, source_of, at_address, memory_in, selector_width, meaning};
 
 use crate::address::register;
 use x86_insn::row::{Kind, Operands};
-use x86_insn::{Cond, Count, Insn, Mem, Reg, Rm, Src};
+use x86_insn::{Cond, Count, Insn, Mem, Reg, Rm, Src, Width};
 
 // The condition of a number.
 fn condition(number: u8) -> Cond
@@ -41,14 +41,15 @@ fn source(operand: Rm) -> Src
     }
 }
 
-// Memory at an address, without registers.
-fn at_address(address: u32) -> Mem
-    ensures { result ≡ at_address address }
+// Memory at an address, without registers, relative to GS or not.
+fn at_address(gs: bool, address: u32) -> Mem
+    ensures { result ≡ at_address gs address }
 {
     Mem {
         base: None,
         index: None,
         disp: address,
+        gs,
     }
 }
 
@@ -57,8 +58,18 @@ fn memory_in(operand: Rm) -> Mem
     ensures { result ≡ memory_in operand }
 {
     match operand {
-        Rm::R(_) => at_address(0),
+        Rm::R(_) => at_address(false, 0),
         Rm::M(mem) => mem,
+    }
+}
+
+// The width of a selector: memory has two bytes of it.
+fn selector_width(width: Width, operand: Rm) -> Width
+    ensures { result ≡ selector_width width operand }
+{
+    match operand {
+        Rm::R(_) => width,
+        Rm::M(_) => Width::W,
     }
 }
 
@@ -134,11 +145,11 @@ pub fn meaning(kind: Kind, o: &Operands) -> Insn
         Kind::MovAccAt => Insn::Mov {
             width: o.width,
             dst: Rm::R(Reg::Eax),
-            src: Src::M(at_address(o.immediate)),
+            src: Src::M(at_address(o.marks.gs, o.immediate)),
         },
         Kind::MovAtAcc => Insn::Mov {
             width: o.width,
-            dst: Rm::M(at_address(o.immediate)),
+            dst: Rm::M(at_address(o.marks.gs, o.immediate)),
             src: Src::R(Reg::Eax),
         },
         Kind::XchgRmReg => Insn::Xchg {
@@ -310,6 +321,12 @@ pub fn meaning(kind: Kind, o: &Operands) -> Insn
         Kind::Nop => Insn::Nop,
         Kind::Pause => Insn::Pause,
         Kind::Endbr => Insn::Endbr,
+        Kind::ToGs => Insn::ToGs { src: o.rm },
+        Kind::FromGs => Insn::FromGs {
+            width: selector_width(o.width, o.rm),
+            dst: o.rm,
+        },
+        Kind::Cpuid => Insn::Cpuid,
         Kind::Jump => Insn::Jump { rel: o.immediate },
         Kind::Branch => Insn::Branch {
             cond: condition(o.opcode % 16),

@@ -304,6 +304,13 @@ const NOP_RM: Option<Form> = Some(digit!(0, Kind::Nop, Absent, Vary, false));
 
 const ENDBR: Option<Form> = Some(form!(Kind::Endbr, NoModrm, Absent, Dword, false, Needed, None));
 
+// The system.
+const TO_GS: Option<Form> = Some(digit!(5, Kind::ToGs, Absent, Vary, false));
+
+const FROM_GS: Option<Form> = Some(digit!(5, Kind::FromGs, Absent, Vary, false));
+
+const CPUID: Option<Form> = Some(plain!(Kind::Cpuid, Absent, Dword));
+
 // Transfers.
 const JCC: Option<Form> = Some(plain!(Kind::Branch, SignedIb, Dword));
 
@@ -347,7 +354,7 @@ static ONE_BYTE: [Option<Form>; 256] = [
     /* 0x70 */ JCC, JCC, JCC, JCC, JCC, JCC, JCC, JCC,
     /* 0x78 */ JCC, JCC, JCC, JCC, JCC, JCC, JCC, JCC,
     /* 0x80 */ NONE, NONE, NONE, NONE, TEST_8, TEST, XCHG_8, XCHG,
-    /* 0x88 */ STORE_8, STORE, LOAD_8, LOAD, NONE, LEA, NONE, POP_RM,
+    /* 0x88 */ STORE_8, STORE, LOAD_8, LOAD, FROM_GS, LEA, TO_GS, POP_RM,
     /* 0x90 */ NONE, XCHG_ACC, XCHG_ACC, XCHG_ACC, XCHG_ACC, XCHG_ACC, XCHG_ACC, XCHG_ACC,
     /* 0x98 */ CBW, CWD, NONE, NONE, PUSHFD, POPFD, SAHF, LAHF,
     /* 0xA0 */ LOAD_AL, LOAD_ACC, STORE_AL, STORE_ACC, string!(Movs, Byte, Rep), string!(Movs, Vary, Rep), string!(Cmps, Byte, Repe), string!(Cmps, Vary, Repe),
@@ -387,7 +394,7 @@ static TWO_BYTE: [Option<Form>; 256] = [
     /* 0x88 */ JCC_ID, JCC_ID, JCC_ID, JCC_ID, JCC_ID, JCC_ID, JCC_ID, JCC_ID,
     /* 0x90 */ SETCC, SETCC, SETCC, SETCC, SETCC, SETCC, SETCC, SETCC,
     /* 0x98 */ SETCC, SETCC, SETCC, SETCC, SETCC, SETCC, SETCC, SETCC,
-    /* 0xA0 */ NONE, NONE, NONE, bit!(Bt), SHLD_IB, SHLD_CL, NONE, NONE,
+    /* 0xA0 */ NONE, NONE, CPUID, bit!(Bt), SHLD_IB, SHLD_CL, NONE, NONE,
     /* 0xA8 */ NONE, NONE, NONE, bit!(Bts), SHRD_IB, SHRD_CL, NONE, IMUL,
     /* 0xB0 */ CMPXCHG_8, CMPXCHG, NONE, bit!(Btr), NONE, NONE, MOVZX_8, MOVZX_16,
     /* 0xB8 */ NONE, NONE, NONE, bit!(Btc), BSF, BSR, MOVSX_8, MOVSX_16,

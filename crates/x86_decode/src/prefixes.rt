@@ -2,13 +2,16 @@
 
 ghost use Rattle.std.specs.Prelude.{◌≡◌, ◌≤◌, length};
 ghost use Rattle.x86_insn.specs.Prefixes.{segments, locks_and_repeats, is_among, is_prefix, at_most_one, may_stand_together, rep_of, marks_of};
-ghost use Rattle.x86_insn.specs.Spelling.{front};
+ghost use Rattle.x86_insn.specs.Spelling.{front, asks_memory};
 
 use x86_insn::Rep;
 use x86_insn::row::Marks;
 
-// ES, CS, SS and DS.
-const SEGMENTS: [u8; 4] = [0x26, 0x2E, 0x36, 0x3E];
+// ES, CS, SS, DS and GS.
+const SEGMENTS: [u8; 5] = [0x26, 0x2E, 0x36, 0x3E, GS];
+
+// The prefix of operands that are relative to GS.
+const GS: u8 = 0x65;
 
 // LOCK, REPNE and REP.
 const LOCKS_AND_REPEATS: [u8; 3] = [0xF0, 0xF2, 0xF3];
@@ -66,7 +69,7 @@ pub fn may_stand_together(prefixes: &[u8]) -> bool
     at_most_one(&SEGMENTS, prefixes) && at_most_one(&LOCKS_AND_REPEATS, prefixes)
 }
 
-/// What prefixes set; those of the segments set nothing.
+/// What prefixes set; those of the segments set nothing, but for GS.
 pub fn marks_of(prefixes: &[u8]) -> Marks
     ensures { result ≡ marks_of prefixes.now }
 {
@@ -81,5 +84,13 @@ pub fn marks_of(prefixes: &[u8]) -> Marks
         word: is_among(prefixes, WORD),
         lock: is_among(prefixes, 0xF0),
         rep,
+        gs: is_among(prefixes, GS),
     }
+}
+
+/// Whether the prefixes ask for memory: F0 and 65 do.
+pub fn asks_memory(marks: Marks) -> bool
+    ensures { result ≡ asks_memory marks }
+{
+    marks.lock || marks.gs
 }

@@ -1,6 +1,6 @@
 use crate::{Decoded, decode};
 use std::test::Fail;
-use x86_insn::{Insn, Mem, Reg, Width};
+use x86_insn::{Insn, Mem, Reg, Rm, Src, Width};
 
 // What a test looks at: the instruction's name, or why there is none.
 #[derive(Clone, Copy, Debug, PartialEq, Eq)]
@@ -11,6 +11,12 @@ enum Name {
     Ret,
     // LEA of a register's own value.
     Keep,
+    ToGs,
+    FromGs,
+    FromGsWord,
+    Cpuid,
+    // A load that is relative to GS.
+    Relative,
     Other,
     Short,
     Unknown,
@@ -38,8 +44,24 @@ fn name_of(insn: Insn) -> Name {
                 base: Some(Reg::Esi),
                 index: None,
                 disp: 0,
+                gs: false,
             },
         } => Name::Keep,
+        Insn::ToGs { .. } => Name::ToGs,
+        Insn::FromGs {
+            width: Width::D,
+            ..
+        } => Name::FromGs,
+        Insn::FromGs {
+            width: Width::W,
+            ..
+        } => Name::FromGsWord,
+        Insn::Cpuid => Name::Cpuid,
+        Insn::Mov {
+            width: Width::D,
+            dst: Rm::R(_),
+            src: Src::M(Mem { gs: true, .. }),
+        } => Name::Relative,
         _ => Name::Other,
     }
 }
@@ -109,6 +131,33 @@ fn prefixes_and_limit(rt: HostRuntime) -> Result<(), Fail> {
         let mut bytes = [0x26; 12].to_vec(rt.alloc())?;
         bytes.extend_from_slice(end)?;
         assert_eq!(rt; outline(decode(&bytes)), (wanted, len), "{end:?}");
+    }
+    Ok(())
+}
+
+// The prefix 65, MOV to and from GS, and CPUID.
+#[test]
+fn gs_and_cpuid(rt: HostRuntime) -> Result<(), Fail> {
+    let cases: [(&[u8], Name, u8); 16] = [
+        (&[0x65, 0xA1, 0, 0, 0, 0], Name::Relative, 6),
+        (&[0x65, 0x8B, 0x08], Name::Relative, 3),
+        (&[0x65, 0x65, 0x8B, 0x00], Name::Relative, 4),
+        (&[0x8B, 0x00], Name::Other, 2),
+        (&[0x65, 0x8D, 0x00], Name::Unknown, 0),
+        (&[0x65, 0x0F, 0x1F, 0x00], Name::Unknown, 0),
+        (&[0x65, 0x8B, 0xC0], Name::Unknown, 0),
+        (&[0x65, 0xF3, 0xA4], Name::Unknown, 0),
+        (&[0x65, 0xF3], Name::Unknown, 0),
+        (&[0x65], Name::Short, 0),
+        (&[0x26, 0x65, 0x8B, 0x00], Name::Unknown, 0),
+        (&[0x8E, 0xE8], Name::ToGs, 2),
+        (&[0x66, 0x8E, 0xE8], Name::ToGs, 3),
+        (&[0x8C, 0xE8], Name::FromGs, 2),
+        (&[0x66, 0x8C, 0x28], Name::FromGsWord, 3),
+        (&[0x0F, 0xA2], Name::Cpuid, 2),
+    ];
+    for (bytes, wanted, len) in cases {
+        assert_eq!(rt; outline(decode(bytes)), (wanted, len), "{bytes:?}");
     }
     Ok(())
 }
