@@ -133,7 +133,8 @@ fine a c e = go (region 0x00100000 code false true a) (region 0x00101000 table f
 
 state : State
 state = record {
-  core = record { regs = 0 ∷ 0 ∷ 0 ∷ 0 ∷ 0 ∷ 0 ∷ 0 ∷ 0 ∷ []; flags = record { cf = false; pf = false; af = false; zf = false; sf = false; df = true; of = true; id = false } };
+  core = record { regs = 0 ∷ 0 ∷ 0 ∷ 0 ∷ 0 ∷ 0 ∷ 0 ∷ 0 ∷ []; flags = record { cf = false; pf = false; af = false; zf = false; sf = false; df = true; of = true; id = false }; gs = 0x33; gs_base = Some 0x08048040 };
+  descs = (6, 0x08048040) ∷ [];
   eip = 0x00100000;
   memory = memory;
   answers = [];
@@ -184,7 +185,7 @@ top a high = go (memory a) refl
 is_lookup : IsLookup 2 runs 0x00102000 table 0x00101000 0x00100000 0x08048054 state
 unfolding state runs code
 is_lookup = record {
-  core = record { eight = refl; fits = small };
+  core = record { eight = refl; fits = small; selector = omega arith; base = omega arith };
   top = top;
   place = refl;
   code = record { byte = λ k l. ap exec_byte_of (code_at k l); low = omega (arith, code_len) };

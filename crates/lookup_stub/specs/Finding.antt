@@ -71,8 +71,8 @@ pub record IsLookup (form : ℕ) (runs : List RunPlace) (p : ℕ) (table : List 
   pub target : bytes_at s.memory (p + 4) 4 ≡ word a
   pub fits : a < 2 ^ 32
 
--- so many steps complete and come to an address with the same registers and flags; each state on the way, and the last
--- one, has the same calls made, answers left and cells, but for what the stub writes
+-- so many steps complete and come to an address with the same registers, flags and GS; each state on the way, and the
+-- last one, has the same descriptors, calls made, answers left and cells, but for what the stub writes
 pub record Finds (p steps to : ℕ) (s : State) : Type 0 where
   pub last : State
   pub passes : Passes (KeepsRest (is_scratch p) s) steps s last

@@ -8,8 +8,8 @@ ghost use Rattle.lookup_stub.specs.Finding.{IsLookup, Finds, lookup_steps, new_a
 
 /// From its first byte, with an address in the private area's second word, the stub comes to the address's new place in
 /// the table's form: in 24 steps (form 2) or 19 (form 1) and four a run up to the address's, or in 15 and four a run
-/// where it lies in no run. No step stops; registers and flags come back, and each state on the way keeps all but the
-/// private bytes 4 to 11 and 44 to 63.
+/// where it lies in no run. No step stops; registers and flags come back, GS stays, and each state on the way keeps all
+/// but the private bytes 4 to 11 and 44 to 63.
 pub fn stub_finds()
     ensures { (form : ℕ) (runs : List RunPlace) (p : ℕ) (table : List ℕ) (lo at a : ℕ) (s : State) →
         IsLookup form runs p table lo at a s →

@@ -113,6 +113,8 @@ kept_of s = record {
   esi = slice_index s.core.regs 6;
   edi = slice_index s.core.regs 7;
   flags = s.core.flags;
+  gs = s.core.gs;
+  gs_base = s.core.gs_base;
 }
 
 module _ (form : ℕ) (runs : List RunPlace) (p : ℕ) (table : List ℕ) (lo at a : ℕ) (s : State) (h : IsLookup form runs p table lo at a s) where
@@ -175,7 +177,7 @@ module _ (form : ℕ) (runs : List RunPlace) (p : ℕ) (table : List ℕ) (lo at
       (held_word run lo table (base + above) h.words (λ i l. no_scratch p (lo + i) (h.table_apart i l)) (omega (arith, w.low)) (omega (arith, w.high)) ok)
 
   -- an address of a word in the table is below 2^32
-  scaled : (base i : ℕ) → IsIn table lo base (4 * i) → (base + i * 4 + 0) % 2 ^ 32 ≡ base + 4 * i
+  scaled : (base i : ℕ) → IsIn table lo base (4 * i) → (0 + base + i * 4 + 0) % 2 ^ 32 ≡ base + 4 * i
   scaled base i w = omega (arith, w.high, h.words.low)
 
   chosen_small : (v : ℕ) → v < 2 ^ 32 → entry_or v a < 2 ^ 32

@@ -1,5 +1,5 @@
 -- A symbolic run of the stub, one line a step.
-use Rattle.std.proofs.Common.{◌≡◌, ℕ, suc, ◌⊎◌, inl, inr, not, ◌+◌, ◌-◌, ◌*◌, ◌/◌, ◌%◌, ◌^◌, ◌<◌, ◌≤◌, Bool, true, false, ◌&&◌, ◌||◌, ◌==◌, List, [], ◌∷◌, ◌++◌, length, Some, None, if◌then◌else◌, nat_le, nat_lt, refl, sym, ap, ◌∙◌, subst, arith}
+use Rattle.std.proofs.Common.{◌≡◌, ℕ, suc, ◌⊎◌, inl, inr, not, ◌+◌, ◌-◌, ◌*◌, ◌/◌, ◌%◌, ◌^◌, ◌<◌, ◌≤◌, Bool, true, false, ◌&&◌, ◌||◌, ◌==◌, List, [], ◌∷◌, ◌++◌, length, Option, Some, None, if◌then◌else◌, nat_le, nat_lt, refl, sym, ap, ◌∙◌, subst, arith}
 use Rattle.mv_base.specs.Bytes.{word}
 use Rattle.mv_base.specs.Memory.{within, bytes_at}
 use Rattle.mv_base.specs.Table.{run_of, entry_or}
@@ -35,7 +35,7 @@ use Rattle.lookup_stub.specs.laws.Spellings as spelling
 abbrev pub may : ℕ → Bool
 may j = (nat_le 1 j && nat_le j 2) || (nat_le 11 j && nat_le j 15)
 
--- registers and flags
+-- registers and flags, and GS
 pub record Kept : Type 0 where
   pub eax : ℕ
   pub ecx : ℕ
@@ -46,13 +46,15 @@ pub record Kept : Type 0 where
   pub esi : ℕ
   pub edi : ℕ
   pub flags : Flags
+  pub gs : ℕ
+  pub gs_base : Option ℕ
 
 -- the core at the first byte, and one with other values in EAX, ECX, EDX and ESP, and other flags
 abbrev pub first_core : Kept → Core
-first_core k = core_of k.eax k.ecx k.edx k.ebx k.esp k.ebp k.esi k.edi k.flags
+first_core k = core_of k.eax k.ecx k.edx k.ebx k.esp k.ebp k.esi k.edi k.flags k.gs k.gs_base
 
 abbrev pub core_with : Kept → ℕ → ℕ → ℕ → ℕ → Flags → Core
-core_with k eax ecx edx esp f = core_of eax ecx edx k.ebx esp k.ebp k.esi k.edi f
+core_with k eax ecx edx esp f = core_of eax ecx edx k.ebx esp k.ebp k.esi k.edi f k.gs k.gs_base
 
 -- what the head writes
 abbrev pub kept_log : Kept → Log
@@ -231,7 +233,7 @@ module _ (s : State) (p : ℕ) (room : p + 64 < 2 ^ 32) (places : HasPlaces (wor
   -- ---- the tail
 
   -- an entry that isn't 0 takes the address's place
-  pub choose_comes : (a at v : ℕ) {n e ecx edx : ℕ} {f : Flags} {t : State} {log : Log} {xs : List (List ℕ)} → may_all may log ≡ true → (edx + ecx * 4 + 0) % 2 ^ 32 ≡ at → Word g log at v
+  pub choose_comes : (a at v : ℕ) {n e ecx edx : ℕ} {f : Flags} {t : State} {log : Log} {xs : List (List ℕ)} → may_all may log ≡ true → (0 + edx + ecx * 4 + 0) % 2 ^ 32 ≡ at → Word g log at v
       → Code g e (choose ++ xs) → ((e' : ℕ) (f : Flags) → e' ≡ e + 8 → Code g e' xs → Comes g n (core_with k (entry_or v a) v edx (p + 48) f) e' log t)
       → Comes g (suc (suc (suc n))) (core_with k a ecx edx (p + 48) f) e log t
   unfolding round got_src got_rm got_at
@@ -251,7 +253,7 @@ module _ (s : State) (p : ℕ) (room : p + 64 < 2 ^ 32) (places : HasPlaces (wor
       rest _ code)
 
   -- by way of a page: the place in the directory, then that in the page
-  pub page_comes : (a i at page : ℕ) {n e dir : ℕ} {f : Flags} {t : State} {xs : List (List ℕ)} → i < 2 ^ 32 → (dir + i / 1024 * 4 + 0) % 2 ^ 32 ≡ at → Word g ((11, i) ∷ kept_log k) at page
+  pub page_comes : (a i at page : ℕ) {n e dir : ℕ} {f : Flags} {t : State} {xs : List (List ℕ)} → i < 2 ^ 32 → (0 + dir + i / 1024 * 4 + 0) % 2 ^ 32 ≡ at → Word g ((11, i) ∷ kept_log k) at page
       → Code g e (turn_page ++ xs) → ((e' : ℕ) (f : Flags) → e' ≡ e + 14 → Code g e' xs → Comes g n (core_with k a (i % 1024) page (p + 48) f) e' ((11, i) ∷ kept_log k) t)
       → Comes g (suc (suc (suc (suc (suc n))))) (core_with k a i dir (p + 48) f) e (kept_log k) t
   unfolding round got_src got_rm got_at

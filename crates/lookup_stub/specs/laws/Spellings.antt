@@ -17,10 +17,10 @@ use Rattle.step_laws.specs.laws.Spelled.{Spelled, with_number}
 
 -- the word at an address, and that number ECX of those from EDX on
 abbrev pub at_address : ℕ → Mem
-at_address n = record { base = None; index = None; disp = n }
+at_address n = record { base = None; index = None; disp = n; gs = false }
 
 abbrev pub at_entry : Mem
-at_entry = record { base = Some Edx; index = Some (Ecx, 4); disp = 0 }
+at_entry = record { base = Some Edx; index = Some (Ecx, 4); disp = 0; gs = false }
 
 -- ---- bytes that end with a number
 
