@@ -21,7 +21,7 @@ use Rattle.x86_insn.specs.declared.registers.Core.{Core}
 use Rattle.x86_insn.specs.Ask.{got_src}
 use Rattle.x86_insn.specs.Round.{round, limit}
 use Rattle.x86_insn.specs.declared.ask.Ask.TheVariants.{Ends}
-use Rattle.x86_insn.specs.Step.{Found, fetch, after_turn, rounds, after_rounds, executed, step}
+use Rattle.x86_insn.specs.Step.{Found, fetch, after_turn, rounds, after_rounds, is_cpuid, plainly, executed, step}
 use Rattle.x86_insn.specs.Run.{state_after}
 use Rattle.x86_insn.specs.Laws.{decoded_of}
 use Rattle.elf32_read.specs.Faults.{refusal, load_refusal, limit_fault, head_fault, headers_fault, header_fault, segment_fault}
@@ -29,7 +29,7 @@ use Rattle.elf32_read.specs.Fields.{headers, header_at, segments}
 use Rattle.elf32_read.specs.Load.{load, segment_cell}
 use Rattle.step_laws.specs.Beside.{IsClearOutcome}
 use Rattle.elf32_write.specs.Frame.{Frame, is_added}
-use Rattle.x86_insn.specs.TakenUp.{effects_of, effects_by_flow}
+use Rattle.x86_insn.specs.TakenUp.{taken_by, taken_of}
 use Rattle.simulation_laws.specs.Simulation.{Start, IsStart, begin, run_state, IsClearEffect, IsClearStep, IsClear}
 use Rattle.step_laws.specs.laws.Fetching.{from_found}
 use Rattle.step_laws.specs.laws.States.{state_next}
@@ -49,7 +49,7 @@ no_flags = record { cf = false; pf = false; af = false; zf = false; sf = false; 
 
 -- all registers 0, no further cell
 abbrev pub start : Start
-start = record { core = record { regs = 0 ∷ 0 ∷ 0 ∷ 0 ∷ 0 ∷ 0 ∷ 0 ∷ 0 ∷ []; flags = no_flags }; cells = λ a. None }
+start = record { core = record { regs = 0 ∷ 0 ∷ 0 ∷ 0 ∷ 0 ∷ 0 ∷ 0 ∷ 0 ∷ []; flags = no_flags; gs = 0; gs_base = None }; cells = λ a. None }
 
 -- the system call gives 5
 abbrev pub answers : List Answer
@@ -73,7 +73,7 @@ small (suc (suc (suc (suc (suc (suc (suc (suc k)))))))) = omega arith
 
 pub is_start : IsStart file start
 is_start = record {
-  core = record { eight = refl; fits = small };
+  core = record { eight = refl; fits = small; selector = omega arith; base = tt };
   cells = record { low = λ a c e. cc; bytes = λ a c e. cc };
   idle = λ a. refl;
   apart = λ a m. refl;
@@ -121,36 +121,37 @@ third_found = stands 0x0804805E 0xCD 2 (0xCD ∷ 0x80 ∷ []) _ refl refl (omega
 -- ---- the states
 
 abbrev core_of : ℕ → ℕ → Core
-core_of eax ebx = record { regs = eax ∷ 0 ∷ 0 ∷ ebx ∷ 0 ∷ 0 ∷ 0 ∷ 0 ∷ []; flags = no_flags }
+core_of eax ebx = record { regs = eax ∷ 0 ∷ 0 ∷ ebx ∷ 0 ∷ 0 ∷ 0 ∷ 0 ∷ []; flags = no_flags; gs = 0; gs_base = None }
 
 abbrev state_at : ℕ → Core → State
-state_at eip core = record { core = core; eip = eip; memory = memory; answers = answers; calls = [] }
+state_at eip core = record { core = core; descs = []; eip = eip; memory = memory; answers = answers; calls = [] }
 
 abbrev last : State
 last = record (state_at 0x08048060 (core_of 5 7)) { answers = []; calls = (1 ∷ 7 ∷ 0 ∷ 0 ∷ 0 ∷ 0 ∷ 0 ∷ []) ∷ [] }
 
 -- a move of a number to a register is one round
-first_round : (limit (Mov D (rm.R Eax) (src.Imm 1)) (core_of 0 0) ≡ 1) × (round (Mov D (rm.R Eax) (src.Imm 1)) (core_of 0 0) [] ≡ Ends (core_of 1 0) None false)
+first_round : (limit (Mov D (rm.R Eax) (src.Imm 1)) (core_of 0 0) ≡ 1) × (round (Mov D (rm.R Eax) (src.Imm 1)) [] (core_of 0 0) [] ≡ Ends (core_of 1 0) None false)
 unfolding limit round got_src
 first_round = (refl, refl)
 
-second_round : (limit (Mov D (rm.R Ebx) (src.Imm 7)) (core_of 1 0) ≡ 1) × (round (Mov D (rm.R Ebx) (src.Imm 7)) (core_of 1 0) [] ≡ Ends (core_of 1 7) None false)
+second_round : (limit (Mov D (rm.R Ebx) (src.Imm 7)) (core_of 1 0) ≡ 1) × (round (Mov D (rm.R Ebx) (src.Imm 7)) [] (core_of 1 0) [] ≡ Ends (core_of 1 7) None false)
 unfolding limit round got_src
 second_round = (refl, refl)
 
-moves : (s : State) (i : Insn) (n : ℕ) (c : Core) → fetch s.memory s.eip ≡ Found i n → flow_of i ≡ flow.Plain → (limit i s.core ≡ 1) × (round i s.core [] ≡ Ends c None false) → step s ≡ Next (record s { core = c; eip = address_after s.eip n })
-moves s i n c found plain once =
+moves : (s : State) (i : Insn) (n : ℕ) (c : Core) → fetch s.memory s.eip ≡ Found i n → flow_of i ≡ flow.Plain → is_cpuid i ≡ false → (limit i s.core ≡ 1) × (round i s.descs s.core [] ≡ Ends c None false) → step s ≡ Next (record s { core = c; eip = address_after s.eip n })
+moves s i n c found plain other once =
     let next = address_after s.eip n in
     fetched_step s i n found
     ∙ ap (executed s i next) plain
-    ∙ ap (λ k. after_rounds s next (rounds k i s.core s.memory)) once.0
-    ∙ ap (after_rounds s next) (one_round i s.core s.memory ∙ ap (λ p. after_turn p s.core s.memory (rounds 0 i)) (turn_ends s.memory (round i s.core) c false once.1))
+    ∙ ap (λ v. plainly v s i next) other
+    ∙ ap (λ k. after_rounds s next (rounds k i s.descs s.core s.memory)) once.0
+    ∙ ap (after_rounds s next) (one_round i s.descs s.core s.memory ∙ ap (λ p. after_turn p s.core s.memory (rounds 0 i s.descs)) (turn_ends s.memory (round i s.descs s.core) c false once.1))
 
 first_step : step (state_at 0x08048054 (core_of 0 0)) ≡ Next (state_at 0x08048059 (core_of 1 0))
-first_step = moves (state_at 0x08048054 (core_of 0 0)) _ 5 (core_of 1 0) first_found refl first_round
+first_step = moves (state_at 0x08048054 (core_of 0 0)) _ 5 (core_of 1 0) first_found refl refl first_round
 
 second_step : step (state_at 0x08048059 (core_of 1 0)) ≡ Next (state_at 0x0804805E (core_of 1 7))
-second_step = moves (state_at 0x08048059 (core_of 1 0)) _ 5 (core_of 1 7) second_found refl second_round
+second_step = moves (state_at 0x08048059 (core_of 1 0)) _ 5 (core_of 1 7) second_found refl refl second_round
 
 third_step : step (state_at 0x0804805E (core_of 1 7)) ≡ Next last
 third_step = fetched_step (state_at 0x0804805E (core_of 1 7)) Int80 2 third_found
@@ -171,9 +172,9 @@ three_steps = ap is_some (state_next 2 (begin file start answers) (state_at 0x08
 
 -- ---- they are clear
 
-clear_here : (f : Frame) (o o' : State) (i : Insn) (n : ℕ) → fetch o.memory o.eip ≡ Found i n → step o ≡ Next o' → effects_by_flow (flow_of i) o.answers ≡ [] → IsClearStep file f o
+clear_here : (f : Frame) (o o' : State) (i : Insn) (n : ℕ) → fetch o.memory o.eip ≡ Found i n → step o ≡ Next o' → taken_by i o.answers ≡ [] → IsClearStep file f o
 clear_here f o o' i n found steps none = record {
-  effects_clear = subst (AllByRecursion (IsClearEffect file f)) (sym (ap (λ r. effects_of r o.answers) found ∙ none)) tt;
+  effects_clear = subst (AllByRecursion (IsClearEffect file f)) (sym (ap (λ r. taken_of r o.answers) found ∙ none)) tt;
   stop_clear = subst (IsClearOutcome (is_added f)) (sym steps) tt;
 }
 
