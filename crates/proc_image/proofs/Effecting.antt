@@ -5,7 +5,7 @@ use Rattle.std.specs.Option.{option_map}
 use Rattle.std.proofs.lemmas.Bool.Decides.{nat_tests}
 use Rattle.std.proofs.lemmas.Option.{none-some}
 use Rattle.mv_base.specs.Memory.{Cell, Memory, within, cell_is, is_mapped, is_executable, address_after, first_failing, read_fault, write_fault, put, distance, with_byte}
-use Rattle.mv_base.specs.Effects.{Mode, Read, Write, Exec, Executable, WriteAt, MapAt, UnmapAt, makes_code, refused_access, refusal_of, applied, is_write_mode, is_exec_mode}
+use Rattle.mv_base.specs.Effects.{Mode, Read, Write, Exec, Executable, WriteAt, MapAt, UnmapAt, DescAt, makes_code, refused_access, refusal_of, applied, is_write_mode, is_exec_mode}
 use Rattle.proc_image.specs.declared.memory.Memory.{Memory as Pages}
 use Rattle.proc_image.specs.Counting.{some_below}
 use Rattle.proc_image.specs.Mapping.{filled}
@@ -39,7 +39,15 @@ pub refusal-map : (m : Memory) (lo len : ℕ) (mode : Mode) (bytes : List ℕ) �
 refusal-map m lo len mode bytes no_exec no_code =
     ap₂ (λ s t. if s || t then Some Executable else None) (makes_code-map lo len mode bytes ∙ sym no_exec) (sym no_code)
 
+pub refusal-desc : (m : Memory) (index base : ℕ) → refusal_of m (DescAt index base) ≡ None
+unfolding first_failing
+refusal-desc m index base = refl
+
 -- what is done
+pub applied-desc : (m : Memory) (index base : ℕ) → m ≡ applied m (DescAt index base)
+unfolding applied
+applied-desc m index base = fun_ext (λ a. refl)
+
 pub applied-write : (m : Memory) (lo : ℕ) (bytes : List ℕ) → put m lo bytes ≡ applied m (WriteAt lo bytes)
 unfolding applied
 applied-write m lo bytes = fun_ext (λ a. refl)

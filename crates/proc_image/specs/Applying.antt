@@ -1,7 +1,7 @@
 -- What an effect does to memory, and why it is refused. This project's own.
 use Rattle.std.specs.Prelude.{◌≡◌, ℕ, ◌<◌, ◌≤◌, Bool, true, false, Some, None, Result, Ok, Err}
 use Rattle.mv_base.specs.Memory.{Memory}
-use Rattle.mv_base.specs.Effects.{Effect, WriteAt, MapAt, UnmapAt, refusal_of, applied}
+use Rattle.mv_base.specs.Effects.{Effect, WriteAt, MapAt, UnmapAt, DescAt, refusal_of, applied}
 use Rattle.mv_base.specs.Effects as refusal
 use Rattle.proc_image.specs.declared.effects.EffectFault.{EffectFault}
 use Rattle.proc_image.specs.declared.effects.EffectFault.TheVariants.{Executable, NotMapped, NotWritable, TooLarge, NoMemory}
@@ -12,6 +12,7 @@ abbrev pub is_map : Effect → Bool
 is_map (WriteAt lo bytes) = false
 is_map (MapAt lo len mode bytes) = true
 is_map (UnmapAt lo len) = false
+is_map (DescAt index base) = false
 
 -- memory after a map has no more pages with a mapped byte than are allowed; nothing is asked of other effects
 abbrev pub KeepsLimit : Memory → Effect → Type 0

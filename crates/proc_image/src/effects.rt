@@ -40,7 +40,7 @@ impl From<NoMemory> for EffectFault {
 }
 
 impl Memory {
-    /// Applies an effect that keeps its bounds.
+    /// Applies an effect that keeps its bounds. A descriptor touches no address.
     ///
     /// # Errors
     ///
@@ -61,6 +61,7 @@ impl Memory {
                 bytes,
             } => { self.apply_map(*lo, *len, *mode, bytes.as_slice()) }
             Effect::Unmap { lo, len } => self.apply_unmap(*lo, *len),
+            Effect::Desc { .. } => Ok(()),
         }
     }
 

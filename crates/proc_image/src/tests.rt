@@ -170,6 +170,13 @@ fn applies_effects(rt: HostRuntime) -> Result<(), Fail> {
             },
             Ok(()),
         ),
+        (
+            Effect::Desc {
+                index: 6,
+                base: 0x4000_0000,
+            },
+            Ok(()),
+        ),
     ];
     for (effect, answer) in rows {
         assert!(rt; effect.keeps_bounds());
