@@ -61,6 +61,11 @@ width_word width.B = codes "byte "
 width_word width.W = codes "word "
 width_word width.D = codes "dword "
 
+-- the word before the brackets of an address, where it is relative to GS
+abbrev pub segment_word : Bool → List ℕ
+segment_word true = codes "gs:"
+segment_word false = []
+
 -- ---- endings
 
 -- the letters of a condition
@@ -202,6 +207,9 @@ stem (insn.Flag op) = flag_name op
 stem insn.Nop = codes "nop"
 stem insn.Pause = codes "pause"
 stem insn.Endbr = codes "endbr32"
+stem (insn.ToGs src) = codes "mov"
+stem (insn.FromGs width dst) = codes "mov"
+stem insn.Cpuid = codes "cpuid"
 stem (insn.Jump rel) = codes "jmp"
 stem (insn.Branch condition rel) = codes "j"
 stem (insn.Loop kind rel) = loop_name kind

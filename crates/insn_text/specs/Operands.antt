@@ -5,7 +5,7 @@ use Rattle.mv_base.specs.Memory.{address_after}
 use Rattle.x86_insn.specs.declared.insn.Insn.{Insn}
 use Rattle.x86_insn.specs.declared.insn.Insn.TheVariants as insn
 use Rattle.x86_insn.specs.declared.insn.Width.{Width}
-use Rattle.x86_insn.specs.declared.insn.Width.TheVariants.{B, D}
+use Rattle.x86_insn.specs.declared.insn.Width.TheVariants.{B, W, D}
 use Rattle.x86_insn.specs.declared.insn.Reg.TheVariants.{Ecx}
 use Rattle.x86_insn.specs.declared.insn.Rm.{Rm}
 use Rattle.x86_insn.specs.declared.insn.Rm.TheVariants as rm
@@ -14,12 +14,17 @@ use Rattle.x86_insn.specs.declared.insn.Src.TheVariants as src
 use Rattle.x86_insn.specs.declared.insn.Count.{Count}
 use Rattle.x86_insn.specs.declared.insn.Count.TheVariants as count
 use Rattle.insn_text.specs.declared.operand.Operand.{Operand}
-use Rattle.insn_text.specs.declared.operand.Operand.TheVariants.{Register, Memory, Address, Number}
+use Rattle.insn_text.specs.declared.operand.Operand.TheVariants.{Register, Memory, Address, Number, Gs}
 
 -- a register or memory of a width
 abbrev pub place : Width → Rm → Operand
 place w (rm.R reg) = Register w reg
 place w (rm.M mem) = Memory w mem
+
+-- a selector: in a register of a width, or in memory, which has two bytes of it
+abbrev pub selector : Width → Rm → Operand
+selector w (rm.R reg) = Register w reg
+selector w (rm.M mem) = Memory W mem
 
 -- a register or memory of a width, or an immediate
 abbrev pub source : Width → Src → Operand
@@ -64,6 +69,8 @@ operands (insn.Cmpxchg w lock dst s) next = place w dst ∷ Register w s ∷ []
 operands (insn.Xadd w lock dst s) next = place w dst ∷ Register w s ∷ []
 operands (insn.Set condition dst) next = place B dst ∷ []
 operands (insn.Cmov condition w dst s) next = Register w dst ∷ place w s ∷ []
+operands (insn.ToGs s) next = Gs ∷ selector W s ∷ []
+operands (insn.FromGs w dst) next = selector w dst ∷ Gs ∷ []
 operands (insn.Jump rel) next = Number (address_after next rel) ∷ []
 operands (insn.Branch condition rel) next = Number (address_after next rel) ∷ []
 operands (insn.Loop kind rel) next = Number (address_after next rel) ∷ []

@@ -6,8 +6,8 @@ use Rattle.x86_insn.specs.declared.insn.Mem.{Mem}
 use Rattle.x86_insn.specs.declared.insn.Reg.{Reg}
 use Rattle.x86_insn.specs.declared.insn.Width.TheVariants.{D}
 use Rattle.insn_text.specs.declared.operand.Operand.{Operand}
-use Rattle.insn_text.specs.declared.operand.Operand.TheVariants.{Register, Memory, Address, Number}
-use Rattle.insn_text.specs.Names.{register_name, width_word, front_word, stem, ending}
+use Rattle.insn_text.specs.declared.operand.Operand.TheVariants.{Register, Memory, Address, Number, Gs}
+use Rattle.insn_text.specs.Names.{register_name, width_word, segment_word, front_word, stem, ending}
 use Rattle.insn_text.specs.Operands.{operands}
 
 -- ---- numbers
@@ -39,15 +39,16 @@ address_text None (Some i) n = index_text i ++ displaced n
 address_text (Some b) None n = register_name D b ++ displaced n
 address_text (Some b) (Some i) n = register_name D b ++ codes "+" ++ index_text i ++ displaced n
 
--- an effective address in brackets
+-- an effective address in brackets, with a word before them where it is relative to GS
 abbrev pub bracket : Mem → List ℕ
-bracket m = codes "[" ++ address_text m.base m.index m.disp ++ codes "]"
+bracket m = segment_word m.gs ++ codes "[" ++ address_text m.base m.index m.disp ++ codes "]"
 
 abbrev pub operand_text : Operand → List ℕ
 operand_text (Register w r) = register_name w r
 operand_text (Memory w m) = width_word w ++ bracket m
 operand_text (Address m) = bracket m
 operand_text (Number n) = number n
+operand_text Gs = codes "gs"
 
 -- operands behind a mnemonic: a space, and a comma before each but the first
 abbrev pub rest_text : List Operand → List ℕ

@@ -1,7 +1,7 @@
 //! The names of registers, conditions and operations. Intel SDM, volume 2.
 
 ghost use Rattle.std.specs.Prelude.{◌≡◌};
-ghost use Rattle.insn_text.specs.Names.{alu_name as alu_name_of, bit_name as bit_name_of, by_sign as by_sign_of, condition_name as condition_name_of, doubling_name as doubling_name_of, element_name as element_name_of, ending as ending_of, flag_name as flag_name_of, front_word as front_word_of, lock_word as lock_word_of, loop_name as loop_name_of, register_name as register_name_of, repeat_word as repeat_word_of, shift_name as shift_name_of, stem as stem_of, string_name as string_name_of, unary_name as unary_name_of, widening_name as widening_name_of, width_word as width_word_of};
+ghost use Rattle.insn_text.specs.Names.{alu_name as alu_name_of, bit_name as bit_name_of, by_sign as by_sign_of, condition_name as condition_name_of, doubling_name as doubling_name_of, element_name as element_name_of, ending as ending_of, flag_name as flag_name_of, front_word as front_word_of, lock_word as lock_word_of, loop_name as loop_name_of, register_name as register_name_of, repeat_word as repeat_word_of, segment_word as segment_word_of, shift_name as shift_name_of, stem as stem_of, string_name as string_name_of, unary_name as unary_name_of, widening_name as widening_name_of, width_word as width_word_of};
 
 use x86_insn::{AluOp, BitOp, Cond, FlagOp, Insn, LoopKind, Reg, Rep, ShiftOp, StrOp, UnOp, Width};
 
@@ -73,6 +73,13 @@ pub fn width_word(width: Width) -> &'static str
         Width::W => "word ",
         Width::D => "dword ",
     }
+}
+
+/// The word before the brackets of an address, where it is relative to GS.
+pub fn segment_word(gs: bool) -> &'static str
+    ensures { result.now ≡ segment_word_of gs }
+{
+    if gs { "gs:" } else { "" }
 }
 
 // The letters of a condition.
@@ -247,7 +254,7 @@ pub fn stem(insn: &Insn) -> &'static str
     match *insn {
         Insn::Alu { op, .. } => alu_name(op),
         Insn::Test { .. } => "test",
-        Insn::Mov { .. } => "mov",
+        Insn::Mov { .. } | Insn::ToGs { .. } | Insn::FromGs { .. } => "mov",
         Insn::Xchg { .. } => "xchg",
         Insn::Lea { .. } => "lea",
         Insn::Movx { signed, .. } => by_sign(signed, "movsx", "movzx"),
@@ -282,6 +289,7 @@ pub fn stem(insn: &Insn) -> &'static str
         Insn::Nop => "nop",
         Insn::Pause => "pause",
         Insn::Endbr => "endbr32",
+        Insn::Cpuid => "cpuid",
         Insn::Jump { .. } | Insn::JumpVia { .. } => "jmp",
         Insn::Branch { .. } => "j",
         Insn::Loop { kind, .. } => loop_name(kind),

@@ -16,6 +16,8 @@ pub enum Operand {
     Address(Mem),
     /// An immediate, a count, or where a transfer goes.
     Number(u32),
+    /// The segment register GS.
+    Gs,
 }
 
 /// How many operands an instruction shows at most.

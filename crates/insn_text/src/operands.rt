@@ -2,7 +2,7 @@
 
 ghost use Rattle.std.specs.Prelude.{◌≡◌, ◌∷◌};
 ghost use Rattle.mv_base.specs.Memory.{address_after};
-ghost use Rattle.insn_text.specs.Operands.{counted as counted_of, dropped as dropped_of, immediate, operands as operands_of, place as place_of, source as source_of};
+ghost use Rattle.insn_text.specs.Operands.{counted as counted_of, dropped as dropped_of, immediate, operands as operands_of, place as place_of, selector as selector_of, source as source_of};
 
 use crate::operand::{Operand, Operands};
 use x86_insn::{Count, Insn, Reg, Rm, Src, Width};
@@ -117,6 +117,8 @@ pub fn operands(insn: &Insn, next: u32) -> Operands
             dst,
             src,
         } => Operands::two(Operand::Register(width, dst), place(width, src)),
+        Insn::ToGs { src } => Operands::two(Operand::Gs, selector(Width::W, src)),
+        Insn::FromGs { width, dst } => Operands::two(selector(width, dst), Operand::Gs),
         Insn::Jump { rel } => Operands::one(destination(next, rel)),
         Insn::Branch { cond: _, rel } => Operands::one(destination(next, rel)),
         Insn::Loop { kind: _, rel } => Operands::one(destination(next, rel)),
@@ -140,6 +142,7 @@ pub fn operands(insn: &Insn, next: u32) -> Operands
         | Insn::Nop
         | Insn::Pause
         | Insn::Endbr
+        | Insn::Cpuid
         | Insn::Int3
         | Insn::Hlt
         | Insn::Ud2 => Operands::none(),
@@ -160,6 +163,16 @@ fn place(width: Width, rm: Rm) -> Operand
     match rm {
         Rm::R(reg) => Operand::Register(width, reg),
         Rm::M(mem) => Operand::Memory(width, mem),
+    }
+}
+
+// A selector: in a register of a width, or in two bytes of memory.
+fn selector(width: Width, rm: Rm) -> Operand
+    ensures { result ≡ selector_of width rm }
+{
+    match rm {
+        Rm::R(reg) => Operand::Register(width, reg),
+        Rm::M(mem) => Operand::Memory(Width::W, mem),
     }
 }
 

@@ -12,6 +12,7 @@ const TABLE: Mem = Mem {
     base: Some(Reg::Ebx),
     index: Some((Reg::Ecx, 4)),
     disp: 0xFFFF_FFFC,
+    gs: false,
 };
 
 // An effective address of an index alone, and one of a displacement alone.
@@ -19,18 +20,36 @@ const SCALED: Mem = Mem {
     base: None,
     index: Some((Reg::Edi, 1)),
     disp: 0,
+    gs: false,
 };
 
 const FIXED: Mem = Mem {
     base: None,
     index: None,
     disp: 0,
+    gs: false,
 };
 
 const TOP: Mem = Mem {
     base: Some(Reg::Esp),
     index: None,
     disp: 4,
+    gs: false,
+};
+
+// Two effective addresses that are relative to GS.
+const FIELD: Mem = Mem {
+    base: Some(Reg::Eax),
+    index: None,
+    disp: 4,
+    gs: true,
+};
+
+const GUARD: Mem = Mem {
+    base: None,
+    index: None,
+    disp: 0x14,
+    gs: true,
 };
 
 // Whether an instruction that ends before 0x1000 has this text.
@@ -206,6 +225,67 @@ fn names_repeats_and_transfers(rt: HostRuntime) -> Result<(), Fail> {
         (Insn::Int80, "int 0x80"),
         (Insn::Endbr, "endbr32"),
         (Insn::Nop, "nop"),
+    ];
+    for (insn, expected) in lines {
+        assert!(rt; has_text(rt.alloc(), insn, expected)?, "{expected}");
+    }
+    Ok(())
+}
+
+#[test]
+fn names_gs_and_what_is_relative_to_it(rt: HostRuntime) -> Result<(), Fail> {
+    let lines = [
+        (
+            Insn::Mov {
+                width: Width::D,
+                dst: Rm::R(Reg::Eax),
+                src: Src::M(GUARD),
+            },
+            "mov eax,dword gs:[0x14]",
+        ),
+        (
+            Insn::Alu {
+                op: AluOp::Xor,
+                width: Width::B,
+                lock: true,
+                dst: Rm::M(FIELD),
+                src: Src::R(Reg::Ecx),
+            },
+            "lock xor byte gs:[eax+0x4],cl",
+        ),
+        (
+            Insn::CallVia { src: Rm::M(FIELD) },
+            "call dword gs:[eax+0x4]",
+        ),
+        (
+            Insn::ToGs {
+                src: Rm::R(Reg::Eax),
+            },
+            "mov gs,ax",
+        ),
+        (Insn::ToGs { src: Rm::M(TOP) }, "mov gs,word [esp+0x4]"),
+        (
+            Insn::FromGs {
+                width: Width::D,
+                dst: Rm::R(Reg::Ecx),
+            },
+            "mov ecx,gs",
+        ),
+        (
+            Insn::FromGs {
+                width: Width::W,
+                dst: Rm::R(Reg::Ecx),
+            },
+            "mov cx,gs",
+        ),
+        (
+            Insn::FromGs {
+                width: Width::W,
+                dst: Rm::M(GUARD),
+            },
+            "mov word gs:[0x14],gs",
+        ),
+        (Insn::Cpuid, "cpuid"),
     ];
     for (insn, expected) in lines {
         assert!(rt; has_text(rt.alloc(), insn, expected)?, "{expected}");

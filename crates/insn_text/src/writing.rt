@@ -4,7 +4,7 @@ ghost use Rattle.std.specs.Prelude.{◌≡◌, ◌++◌, OnErr, OnOk, codes};
 ghost use Rattle.insn_text.specs.Extends.{Extends};
 ghost use Rattle.insn_text.specs.Text.{address_text, bracket, displaced, index_text, operand_text, operands_text, rest_text, text_of};
 
-use crate::names::{ending, front_word, register_name, stem, width_word};
+use crate::names::{ending, front_word, register_name, segment_word, stem, width_word};
 use crate::numbers::put_number;
 use crate::operand::Operand;
 use crate::operands::operands;
@@ -99,15 +99,17 @@ fn put_operand(operand: &Operand, to: &mut Vec<u8>) -> Result<(), NoMemory>
         }
         Operand::Address(mem) => put_bracket(mem, to),
         Operand::Number(n) => put_number(*n, to),
+        Operand::Gs => put_word("gs", to),
     }
 }
 
-// Appends an effective address in brackets.
+// Appends an effective address in brackets, with a word before them where it is relative to GS.
 #[tactic(auto, using(crate::proofs::Extending::extending))]
 fn put_bracket(mem: &Mem, to: &mut Vec<u8>) -> Result<(), NoMemory>
     ensures ok { OnOk result (to.new.items ≡ to.old.items ++ bracket mem.now) }
     ensures grows { Extends to.old.items to.new.items }
 {
+    put_word(segment_word(mem.gs), to)?;
     put_word("[", to)?;
     put_address(mem, to)?;
     put_word("]", to)
