@@ -13,7 +13,7 @@ use Rattle.x86_insn.specs.declared.row.Marks.{Marks}
 use Rattle.x86_insn.specs.declared.row.Operands.{Operands}
 use Rattle.x86_insn.specs.declared.row.Row.{Row}
 use Rattle.x86_insn.specs.State.{reg_number}
-use Rattle.x86_insn.specs.Spelling.{lead_bytes, width_of, has_modrm, takes_operand, takes_marks, is_opcode, signed_byte}
+use Rattle.x86_insn.specs.Spelling.{lead_bytes, width_of, has_modrm, takes_operand, takes_marks, asks_memory, is_opcode, signed_byte}
 use Rattle.x86_encode.specs.Address.{half_bytes, dword_bytes, address_bytes}
 
 abbrev pub same_width : Width → Width → Bool
@@ -42,8 +42,12 @@ abbrev pub word_bytes : Bool → List ℕ
 word_bytes true = 0x66 ∷ []
 word_bytes false = []
 
+abbrev pub segment_bytes : Bool → List ℕ
+segment_bytes true = 0x65 ∷ []
+segment_bytes false = []
+
 abbrev pub prefix_bytes : Marks → List ℕ
-prefix_bytes m = word_bytes m.word ++ group_bytes m.lock m.rep
+prefix_bytes m = segment_bytes m.gs ++ word_bytes m.word ++ group_bytes m.lock m.rep
 
 -- an immediate's bytes; none where it doesn't fit
 abbrev pub fits_half : ℕ → Option (List ℕ)
@@ -77,7 +81,7 @@ takes r o =
     same_width (width_of r.form.size o.marks.word) o.width
     && takes_marks r.form o.marks
     && takes_operand r.form.layout (is_memory o.rm)
-    && (not o.marks.lock || is_memory o.rm)
+    && (not (asks_memory o.marks) || is_memory o.rm)
     && is_opcode r (opcode_byte r o.opcode)
 
 abbrev pub addressed_bytes : Bool → ℕ → Rm → Option (List ℕ)

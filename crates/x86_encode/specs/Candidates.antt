@@ -2,7 +2,8 @@
 -- kind doesn't use has the value that `plain` gives it. Intel SDM, volume 2.
 use Rattle.std.specs.Prelude.{ℕ, Bool, true, false, Option, Some, None, ◌==◌, if◌then◌else◌}
 use Rattle.x86_insn.specs.declared.insn.Insn.{Insn}
-use Rattle.x86_insn.specs.declared.insn.Insn.TheVariants.{Alu, Test, Mov, Xchg, Lea, Movx, Bswap, Push, Pop, Pushad, Popad, Pushfd, Popfd, Leave, Bump, Unary, Mul, Div, Imul, Shift, Double, Bit, Scan, Cmpxchg, Xadd, Set, Cmov, Cbw, Cwd, Str, Xlat, Lahf, Sahf, Flag, Nop, Pause, Endbr, Jump, Branch, Loop, Call, JumpVia, CallVia, Ret, Int80, Int3, Hlt, Ud2}
+use Rattle.x86_insn.specs.declared.insn.Insn.TheVariants.{Alu, Test, Mov, Xchg, Lea, Movx, Bswap, Push, Pop, Pushad, Popad, Pushfd, Popfd, Leave, Bump, Unary, Mul, Div, Imul, Shift, Double, Bit, Scan, Cmpxchg, Xadd, Set, Cmov, Cbw, Cwd, Str, Xlat, Lahf, Sahf, Flag, Nop, Pause, Endbr, ToGs, FromGs, Cpuid, Jump, Branch, Loop, Call, JumpVia, CallVia, Ret, Int80, Int3, Hlt, Ud2}
+use Rattle.x86_insn.specs.declared.insn.Mem.{Mem}
 use Rattle.x86_insn.specs.declared.insn.Reg.{Reg}
 use Rattle.x86_insn.specs.declared.insn.Reg.TheVariants.{Eax}
 use Rattle.x86_insn.specs.declared.insn.Rep.{Rep}
@@ -26,11 +27,16 @@ is_word B = false
 is_word W = true
 is_word D = false
 
-abbrev pub marks : Width → Bool → Rep → Marks
-marks w lock rep = record { word = is_word w; lock = lock; rep = rep }
+-- memory relative to GS
+abbrev pub is_gs : Rm → Bool
+is_gs (rm.R r) = false
+is_gs (rm.M m) = m.gs
+
+abbrev pub marks : Width → Bool → Rep → Bool → Marks
+marks w lock rep gs = record { word = is_word w; lock = lock; rep = rep; gs = gs }
 
 abbrev pub operands : Width → Bool → Rep → ℕ → Reg → Rm → ℕ → Operands
-operands w lock rep number r x n = record { width = w; marks = marks w lock rep; opcode = number; reg = r; rm = x; immediate = n }
+operands w lock rep number r x n = record { width = w; marks = marks w lock rep (is_gs x); opcode = number; reg = r; rm = x; immediate = n }
 
 -- a kind with its operands, those that it doesn't use left out
 abbrev pub alone : Kind → Width → Rep → Option Candidate
@@ -41,6 +47,10 @@ of_rm k w lock x r n = Some (record { kind = k; operands = operands w lock Once 
 
 abbrev pub of_number : Kind → Width → ℕ → ℕ → Option Candidate
 of_number k w number n = Some (record { kind = k; operands = operands w false Once number Eax (rm.R Eax) n })
+
+-- with memory whose address is the immediate
+abbrev pub of_address : Kind → Width → Mem → Option Candidate
+of_address k w m = of_rm k w false (rm.M m) Eax m.disp
 
 abbrev pub of_condition : Kind → Width → ℕ → Rm → Reg → Option Candidate
 of_condition k w number x r = Some (record { kind = k; operands = operands w false Once number r x 0 })
@@ -114,6 +124,12 @@ general (Flag op) = alone (kind.Flag op) D Once
 general Nop = alone kind.Nop D Once
 general Pause = alone kind.Pause D F3
 general Endbr = alone kind.Endbr D F3
+general (ToGs x) = of_rm kind.ToGs D false x Eax 0
+general (FromGs w (rm.R r)) = of_rm kind.FromGs w false (rm.R r) Eax 0
+general (FromGs W (rm.M m)) = of_rm kind.FromGs D false (rm.M m) Eax 0
+general (FromGs B (rm.M m)) = None
+general (FromGs D (rm.M m)) = None
+general Cpuid = alone kind.Cpuid D Once
 general (Jump n) = of_number kind.Jump D 0 n
 general (Branch c n) = of_number kind.Branch D (cond_number c) n
 general (Loop which n) = of_number (kind.Loop which) D 0 n
@@ -133,8 +149,8 @@ special (Alu op w lock (rm.R r) (src.Imm n)) = if_unlocked lock (if_accumulator 
 special (Test w (rm.R r) (src.Imm n)) = if_accumulator r (of_number kind.TestAccImm w 0 n)
 special (Mov w (rm.R r) (src.R s)) = of_rm kind.MovRegRm w false (rm.R s) r 0
 special (Mov w (rm.R r) (src.Imm n)) = of_number kind.MovRegImm w (reg_number r) n
-special (Mov w (rm.R r) (src.M m)) = if_accumulator r (if_absolute m.base m.index (of_number kind.MovAccAt w 0 m.disp))
-special (Mov w (rm.M m) (src.R r)) = if_accumulator r (if_absolute m.base m.index (of_number kind.MovAtAcc w 0 m.disp))
+special (Mov w (rm.R r) (src.M m)) = if_accumulator r (if_absolute m.base m.index (of_address kind.MovAccAt w m))
+special (Mov w (rm.M m) (src.R r)) = if_accumulator r (if_absolute m.base m.index (of_address kind.MovAtAcc w m))
 special (Xchg w lock (rm.R r) s) = if_unlocked lock (if_accumulator s (of_number kind.XchgRegAcc w (reg_number r) 0))
 special (Push (src.R r)) = of_number kind.PushReg D (reg_number r) 0
 special (Pop (rm.R r)) = of_number kind.PopReg D (reg_number r) 0

@@ -19,7 +19,7 @@ use Rattle.x86_insn.specs.declared.row.Immediate.TheVariants.{Absent, Ib, Signed
 use Rattle.x86_insn.specs.declared.row.Size.TheVariants.{Byte, Vary, Dword}
 use Rattle.x86_insn.specs.declared.row.Repeat.TheVariants.{Never, Idle, Needed, Rep, Repe}
 use Rattle.x86_insn.specs.declared.row.Kind.{Kind}
-use Rattle.x86_insn.specs.declared.row.Kind.TheVariants.{AluRmReg, AluRegRm, AluAccImm, AluRmImm, TestRmReg, TestAccImm, TestRmImm, MovRmReg, MovRegRm, MovRegImm, MovRmImm, MovAccAt, MovAtAcc, XchgRmReg, XchgRegAcc, Lea, Movx, Bswap, PushReg, PushImm, PushRm, PopReg, PopRm, BumpReg, BumpRm, Unary, Mul, Div, ImulRegRm, ImulRegRmImm, ShiftImm, ShiftOne, ShiftCl, DoubleImm, DoubleCl, BitReg, BitImm, Scan, Cmpxchg, Xadd, Set, Cmov, Cbw, Cwd, Str, Flag, Pushad, Popad, Pushfd, Popfd, Leave, Xlat, Lahf, Sahf, Nop, Pause, Endbr, Jump, Branch, Loop, Call, JumpVia, CallVia, Ret, Int80, Int3, Hlt, Ud2}
+use Rattle.x86_insn.specs.declared.row.Kind.TheVariants.{AluRmReg, AluRegRm, AluAccImm, AluRmImm, TestRmReg, TestAccImm, TestRmImm, MovRmReg, MovRegRm, MovRegImm, MovRmImm, MovAccAt, MovAtAcc, XchgRmReg, XchgRegAcc, Lea, Movx, Bswap, PushReg, PushImm, PushRm, PopReg, PopRm, BumpReg, BumpRm, Unary, Mul, Div, ImulRegRm, ImulRegRmImm, ShiftImm, ShiftOne, ShiftCl, DoubleImm, DoubleCl, BitReg, BitImm, Scan, Cmpxchg, Xadd, Set, Cmov, Cbw, Cwd, Str, Flag, Pushad, Popad, Pushfd, Popfd, Leave, Xlat, Lahf, Sahf, Nop, Pause, Endbr, ToGs, FromGs, Cpuid, Jump, Branch, Loop, Call, JumpVia, CallVia, Ret, Int80, Int3, Hlt, Ud2}
 use Rattle.x86_insn.specs.declared.row.Row.{Row}
 use Rattle.x86_insn.specs.Rows.{row}
 
@@ -179,6 +179,9 @@ full_row (Flag Std) = Some (row Bare 0xFD 1 None NoModrm Absent Dword false Neve
 full_row Nop = Some (row Bare 0x90 1 None NoModrm Absent Vary false Never Nop)
 full_row Pause = Some (row Bare 0x90 1 None NoModrm Absent Dword false Needed Pause)
 full_row Endbr = Some (row Hint 0xFB 1 None NoModrm Absent Dword false Needed Endbr)
+full_row ToGs = Some (row Bare 0x8E 1 (Some 5) Any Absent Vary false Never ToGs)
+full_row FromGs = Some (row Bare 0x8C 1 (Some 5) Any Absent Vary false Never FromGs)
+full_row Cpuid = Some (row Escape 0xA2 1 None NoModrm Absent Dword false Never Cpuid)
 full_row Branch = Some (row Escape 0x80 16 None NoModrm Id Dword false Never Branch)
 full_row Jump = Some (row Bare 0xE9 1 None NoModrm Id Dword false Never Jump)
 full_row JumpVia = Some (row Bare 0xFF 1 (Some 4) Any Absent Dword false Never JumpVia)

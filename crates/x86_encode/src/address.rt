@@ -5,7 +5,7 @@ ghost use Rattle.std.specs.Option.{ForSome};
 ghost use Rattle.x86_encode.specs.Address.{half_bytes, dword_bytes, modrm, fits_byte, mode_of, displacement_by, based, scale_of, index_bits, indexed, indexed_from, memory_bytes, address_bytes};
 
 use crate::spelling::Spelling;
-use x86_insn::{Mem, Reg, Rm};
+use x86_insn::{Reg, Rm};
 
 /// A number below 2^16 as two bytes, the least first.
 pub fn half_bytes(number: u32) -> Spelling
@@ -187,9 +187,6 @@ pub fn address_bytes(field: u8, operand: Rm) -> Option<Spelling>
 {
     match operand {
         Rm::R(reg) => Some(Spelling::new(&[modrm(3, field, reg.number() as u8)])),
-        Rm::M(mem) => {
-            let Mem { base, index, disp } = mem;
-            memory_bytes(field, base, index, disp)
-        }
+        Rm::M(mem) => memory_bytes(field, mem.base, mem.index, mem.disp),
     }
 }

@@ -3,7 +3,7 @@
 ghost use Rattle.std.specs.Prelude.{◌≡◌, ◌<◌, ◌≤◌, ◌++◌, length, IfSome};
 ghost use Rattle.x86_insn.specs.Spelling.{lead_bytes, is_opcode};
 ghost use Rattle.x86_insn.specs.declared.row.Immediate.TheVariants.{SignedIb};
-ghost use Rattle.x86_encode.specs.Assembling.{same_width, is_memory, group_bytes, word_bytes, prefix_bytes, fits_half, fits_dword, immediate_bytes, opcode_byte, field_of, takes, addressed_bytes, both, operand_bytes, front_bytes, behind, assembled};
+ghost use Rattle.x86_encode.specs.Assembling.{same_width, is_memory, group_bytes, word_bytes, segment_bytes, prefix_bytes, fits_half, fits_dword, immediate_bytes, opcode_byte, field_of, takes, addressed_bytes, both, operand_bytes, front_bytes, behind, assembled};
 
 use crate::address::{address_bytes, dword_bytes, half_bytes};
 use crate::spelling::Spelling;
@@ -52,12 +52,24 @@ fn word_bytes(word: bool) -> Spelling
     }
 }
 
+fn segment_bytes(gs: bool) -> Spelling
+    ensures is { result ≡ segment_bytes gs }
+    ensures at_most { length result ≤ 1 }
+{
+    if gs {
+        Spelling::new(&[0x65])
+    } else {
+        Spelling::new(&[])
+    }
+}
+
 // The prefixes, in ascending order.
 fn prefix_bytes(marks: Marks) -> Spelling
     ensures is { result ≡ prefix_bytes marks }
-    ensures at_most { length result ≤ 2 }
+    ensures at_most { length result ≤ 3 }
 {
-    word_bytes(marks.word).and(&group_bytes(marks.lock, marks.rep))
+    let segment_and_word = segment_bytes(marks.gs).and(&word_bytes(marks.word));
+    segment_and_word.and(&group_bytes(marks.lock, marks.rep))
 }
 
 fn lead_bytes(lead: Lead) -> Spelling
@@ -173,7 +185,7 @@ fn takes(row: &Row, operands: &Operands) -> bool
     same_width(form.size.width(marks.word), operands.width)
         && form.takes_marks(marks)
         && form.layout.takes(memory)
-        && (!marks.lock || memory)
+        && (!(marks.lock || marks.gs) || memory)
         && is_opcode(row, opcode_byte(row, operands.opcode))
 }
 
@@ -210,7 +222,7 @@ fn operand_bytes(row: &Row, operands: &Operands) -> Option<Spelling>
 // Prefixes, lead and opcode byte.
 fn front_bytes(row: &Row, operands: &Operands) -> Spelling
     ensures is { result ≡ front_bytes row.now operands.now }
-    ensures at_most { length result ≤ 5 }
+    ensures at_most { length result ≤ 6 }
 {
     let opcode = Spelling::new(&[opcode_byte(row, operands.opcode)]);
     prefix_bytes(operands.marks).and(&lead_bytes(row.lead).and(&opcode))
@@ -219,8 +231,7 @@ fn front_bytes(row: &Row, operands: &Operands) -> Spelling
 /// The least bytes that spell the operands by the row; none where it can't spell them.
 #[tactic(auto, unfolding(crate::specs::Assembling::assembled))]
 pub fn assembled(row: &Row, operands: &Operands) -> Option<Spelling>
-    ensures is { result ≡ assembled row.now operands.now }
-    ensures at_most { IfSome result (λ s. length s ≤ 15) }
+    ensures { result ≡ assembled row.now operands.now }
 {
     if !takes(row, operands) {
         return None;

@@ -1,10 +1,10 @@
 //! The kinds of row that spell an instruction, with the operands: no instruction has more than two.
 
 ghost use Rattle.std.specs.Prelude.{◌≡◌, ◌==◌};
-ghost use Rattle.x86_insn.specs.declared.insn.Insn.TheVariants.{Alu, Test, Mov, Xchg, Push, Shift, Bump};
+ghost use Rattle.x86_insn.specs.declared.insn.Insn.TheVariants.{Alu, Test, Mov, Xchg, Push, Shift, Bump, FromGs};
 ghost use Rattle.x86_insn.specs.Meaning.{cond_number};
 ghost use Rattle.x86_insn.specs.State.{reg_number};
-ghost use Rattle.x86_encode.specs.Candidates.{is_word, operands, alone, of_rm, of_number, of_condition, if_absolute, general, special};
+ghost use Rattle.x86_encode.specs.Candidates.{is_word, is_gs, operands, alone, of_rm, of_number, of_address, of_condition, if_absolute, general, special};
 
 use x86_insn::row::{Kind, Marks, Operands};
 use x86_insn::{AluOp, Cond, Count, Insn, Mem, Reg, Rep, Rm, ShiftOp, Src, Width};
@@ -22,6 +22,16 @@ fn is_word(width: Width) -> bool
     matches!(width, Width::W)
 }
 
+// Memory relative to GS.
+fn is_gs(rm: Rm) -> bool
+    ensures { result ≡ is_gs rm }
+{
+    match rm {
+        Rm::R(_) => false,
+        Rm::M(mem) => mem.gs,
+    }
+}
+
 fn operands(
     width: Width,
     lock: bool,
@@ -37,6 +47,7 @@ fn operands(
         word: is_word(width),
         lock,
         rep,
+        gs: is_gs(rm),
     };
     Operands {
         width,
@@ -85,6 +96,13 @@ fn of_number(kind: Kind, width: Width, number: u8, immediate: u32) -> Option<Can
         immediate,
     );
     Some(Candidate { kind, operands })
+}
+
+// With memory whose address is the immediate.
+fn of_address(kind: Kind, width: Width, mem: Mem) -> Option<Candidate>
+    ensures { result ≡ of_address kind width mem }
+{
+    of_rm(kind, width, false, Rm::M(mem), Reg::Eax, mem.disp)
 }
 
 // With a condition in the opcode, and the operands of ModRM.
@@ -139,6 +157,18 @@ fn general_mov(width: Width, dst: Rm, src: Src) -> Option<Candidate>
         (_, Src::Imm(imm)) => of_rm(Kind::MovRmImm, width, false, dst, Reg::Eax, imm),
         (Rm::R(reg), Src::M(mem)) => of_rm(Kind::MovRegRm, width, false, Rm::M(mem), reg, 0),
         (Rm::M(_), Src::M(_)) => None,
+    }
+}
+
+// A selector goes to memory with two bytes, and without 66.
+#[tactic(auto, unfolding(crate::specs::Candidates::general))]
+fn general_from_gs(width: Width, dst: Rm) -> Option<Candidate>
+    ensures { result ≡ general (FromGs width dst) }
+{
+    match (width, dst) {
+        (_, Rm::R(_)) => of_rm(Kind::FromGs, width, false, dst, Reg::Eax, 0),
+        (Width::W, Rm::M(_)) => of_rm(Kind::FromGs, Width::D, false, dst, Reg::Eax, 0),
+        _ => None,
     }
 }
 
@@ -295,6 +325,9 @@ pub fn general(insn: &Insn) -> Option<Candidate>
         Insn::Nop => alone(Kind::Nop, Width::D, Rep::Once),
         Insn::Pause => alone(Kind::Pause, Width::D, Rep::F3),
         Insn::Endbr => alone(Kind::Endbr, Width::D, Rep::F3),
+        Insn::ToGs { src } => of_rm(Kind::ToGs, Width::D, false, src, Reg::Eax, 0),
+        Insn::FromGs { width, dst } => general_from_gs(width, dst),
+        Insn::Cpuid => alone(Kind::Cpuid, Width::D, Rep::Once),
         Insn::Jump { rel } => of_number(Kind::Jump, Width::D, 0, rel),
         Insn::Branch { cond, rel } => of_number(Kind::Branch, Width::D, cond.number(), rel),
         Insn::Loop { kind, rel } => of_number(Kind::Loop(kind), Width::D, 0, rel),
@@ -338,14 +371,14 @@ fn special_mov(width: Width, dst: Rm, src: Src) -> Option<Candidate>
         (Rm::R(dst), Src::Imm(imm)) => of_number(Kind::MovRegImm, width, dst.number() as u8, imm),
         (Rm::R(dst), Src::M(mem)) => {
             if is_accumulator(dst) {
-                if_absolute(&mem, of_number(Kind::MovAccAt, width, 0, mem.disp))
+                if_absolute(&mem, of_address(Kind::MovAccAt, width, mem))
             } else {
                 None
             }
         }
         (Rm::M(mem), Src::R(reg)) => {
             if is_accumulator(reg) {
-                if_absolute(&mem, of_number(Kind::MovAtAcc, width, 0, mem.disp))
+                if_absolute(&mem, of_address(Kind::MovAtAcc, width, mem))
             } else {
                 None
             }

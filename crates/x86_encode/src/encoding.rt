@@ -1,7 +1,6 @@
 //! The least spelling of an instruction.
 
 ghost use Rattle.std.specs.Prelude.{◌≡◌, ◌≤◌, length, IfSome};
-ghost use Rattle.std.specs.Option.{ForSome};
 ghost use Rattle.x86_encode.specs.Encoding.{IsLeastOf, IsEncoded};
 ghost use Rattle.x86_encode.specs.Least.{lesser, by_row, by_rows, by_candidate, least};
 
@@ -14,10 +13,7 @@ use x86_insn::row::{Operands, Row};
 
 // The lesser of two, where both are there.
 fn lesser(left: Option<Spelling>, right: Option<Spelling>) -> Option<Spelling>
-    requires left { ForSome left (λ s. length s ≤ 15) }
-    requires right { ForSome right (λ s. length s ≤ 15) }
-    ensures is { result ≡ lesser left right }
-    ensures at_most { IfSome result (λ s. length s ≤ 15) }
+    ensures { result ≡ lesser left right }
 {
     match (left, right) {
         (None, right) => right,
@@ -33,8 +29,7 @@ fn lesser(left: Option<Spelling>, right: Option<Spelling>) -> Option<Spelling>
 }
 
 fn by_row(row: Option<Row>, operands: &Operands) -> Option<Spelling>
-    ensures is { result ≡ by_row row operands.now }
-    ensures at_most { IfSome result (λ s. length s ≤ 15) }
+    ensures { result ≡ by_row row operands.now }
 {
     match row {
         None => None,
@@ -45,8 +40,7 @@ fn by_row(row: Option<Row>, operands: &Operands) -> Option<Spelling>
 // The least by the rows of its kind.
 #[tactic(auto, unfolding(crate::specs::Least::by_rows))]
 fn by_rows(candidate: &Candidate) -> Option<Spelling>
-    ensures is { result ≡ by_rows candidate.now }
-    ensures at_most { IfSome result (λ s. length s ≤ 15) }
+    ensures { result ≡ by_rows candidate.now }
 {
     let operands = &candidate.operands;
     let byte = by_row(byte_row(candidate.kind), operands);
@@ -56,8 +50,7 @@ fn by_rows(candidate: &Candidate) -> Option<Spelling>
 }
 
 fn by_candidate(candidate: Option<Candidate>) -> Option<Spelling>
-    ensures is { result ≡ by_candidate candidate }
-    ensures at_most { IfSome result (λ s. length s ≤ 15) }
+    ensures { result ≡ by_candidate candidate }
 {
     match candidate {
         None => None,
@@ -68,8 +61,7 @@ fn by_candidate(candidate: Option<Candidate>) -> Option<Spelling>
 // The least over the candidates.
 #[tactic(auto, unfolding(crate::specs::Least::least))]
 fn least(insn: &Insn) -> Option<Spelling>
-    ensures is { result ≡ least insn.now }
-    ensures at_most { IfSome result (λ s. length s ≤ 15) }
+    ensures { result ≡ least insn.now }
 {
     lesser(by_candidate(general(insn)), by_candidate(special(insn)))
 }

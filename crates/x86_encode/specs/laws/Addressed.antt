@@ -8,10 +8,11 @@ use Rattle.x86_insn.specs.declared.insn.Reg.TheVariants.{Eax, Ecx, Edx, Ebx, Esp
 use Rattle.x86_insn.specs.declared.insn.Rm.{Rm}
 use Rattle.x86_insn.specs.declared.insn.Rm.TheVariants.{R, M}
 use Rattle.x86_insn.specs.State.{reg_number}
-use Rattle.x86_insn.specs.Addressing.{byte_at, dword_at, sign_extended, reg_of, reg_field, names_memory, has_sib, has_base, displacement_place, displacement_bytes, displacement_of, displacement_length, address_length, factor_of, memory_of, rm_of}
+use Rattle.x86_insn.specs.Addressing.{byte_at, dword_at, sign_extended, reg_of, reg_field, names_memory, has_sib, has_base, displacement_place, displacement_bytes, displacement_of, displacement_length, address_length, factor_of, memory_of, rm_of, with_gs}
 use Rattle.x86_insn.specs.Agreeing.{both_true}
 use Rattle.x86_encode.specs.Address.{dword_bytes, modrm, fits_byte, mode_of, displacement_by, based, scale_of, scaled, index_bits, indexed, indexed_from, memory_bytes, address_bytes}
 use Rattle.x86_encode.specs.Assembling.{is_memory}
+use Rattle.x86_encode.specs.Candidates.{is_gs}
 
 -- ---- registers and their numbers
 
@@ -68,6 +69,24 @@ is_scale factor scale e = go (factor == 1) refl (factor == 2) refl (factor == 4)
     go false p false q false r true s f = let z : scale ≡ 3 = cc f in record { low = omega arith; back = ap factor_of z ∙ sym (eqb-true factor 8 s) }
     go false p false q false r false s f = absurd (cc f)
 
+-- ---- memory relative to GS, or not
+
+pub gs_again : (g : Bool) (x : Rm) → g ≡ is_gs x → with_gs g (with_gs false x) ≡ x
+gs_again g (R r) e = refl
+gs_again g (M m) e = ap (λ (v : Bool). M (record m { gs = v })) e
+
+pub gs_with : (g : Bool) (x : Rm) → is_gs (with_gs g x) ≡ true → g ≡ true
+gs_with g (R r) h = absurd (cc h)
+gs_with g (M m) h = h
+
+pub memory_with : (g : Bool) (x : Rm) → is_memory (with_gs g x) ≡ is_memory x
+memory_with g (R r) = refl
+memory_with g (M m) = refl
+
+pub address_with : (field : ℕ) (g : Bool) (x : Rm) → address_bytes field (with_gs g x) ≡ address_bytes field x
+address_with field g (R r) = refl
+address_with field g (M m) = refl
+
 -- ---- what bytes name, by the fields of ModRM and SIB
 
 abbrev pub index_by : ℕ → Option (Reg × ℕ)
@@ -77,7 +96,7 @@ pub record Shape (s : List ℕ) (p len : ℕ) (base : Option Reg) (index : Optio
   pub names : names_memory s ≡ true
   pub place : displacement_place s ≡ p
   pub size : address_length s ≡ p + len
-  pub rm : rm_of s ≡ M (record { base = base; index = index; disp = displacement_of s len })
+  pub rm : rm_of s ≡ M (record { base = base; index = index; disp = displacement_of s len; gs = false })
 
 pub record IsRegister (s : List ℕ) : Type 0 where
   pub names : names_memory s ≡ false
@@ -91,11 +110,11 @@ pub plain_shape : (s : List ℕ) (mode : ℕ) → byte_at s 0 / 64 ≡ mode → 
 plain_shape s mode e three four five =
     record { names = rw (e, three) refl; place = rw (e, three, four) refl; size = rw (e, three, four, five) refl; rm = rw (e, three, four, five) refl }
 
-mem_same : (b b' : Option Reg) (x x' : Option (Reg × ℕ)) (d d' : ℕ) → b ≡ b' → x ≡ x' → d ≡ d' → ◌≡◌ {A = Rm} (M (record { base = b; index = x; disp = d })) (M (record { base = b'; index = x'; disp = d' }))
+mem_same : (b b' : Option Reg) (x x' : Option (Reg × ℕ)) (d d' : ℕ) → b ≡ b' → x ≡ x' → d ≡ d' → ◌≡◌ {A = Rm} (M (record { base = b; index = x; disp = d; gs = false })) (M (record { base = b'; index = x'; disp = d'; gs = false }))
 mem_same b b' x x' d d' p q e = cc
 
 -- with four bytes of displacement and no base
-rm_by : (s : List ℕ) (index : Option (Reg × ℕ)) → names_memory s ≡ true → displacement_length s ≡ 4 → (memory_of s).base ≡ None → (memory_of s).index ≡ index → rm_of s ≡ M (record { base = None; index = index; disp = displacement_of s 4 })
+rm_by : (s : List ℕ) (index : Option (Reg × ℕ)) → names_memory s ≡ true → displacement_length s ≡ 4 → (memory_of s).base ≡ None → (memory_of s).index ≡ index → rm_of s ≡ M (record { base = None; index = index; disp = displacement_of s 4; gs = false })
 rm_by s index n l b x = ap (λ (v : Bool). if v then M (memory_of s) else R (reg_of (byte_at s 0 % 8))) n ∙ mem_same _ _ _ _ _ _ b x (ap (displacement_of s) l)
 
 pub bare_shape : (s : List ℕ) → byte_at s 0 / 64 ≡ 0 → byte_at s 0 % 8 ≡ 5 → Shape s 1 4 None None
@@ -206,7 +225,7 @@ displacement_are_bytes (suc (suc zero)) disp base h = dword_are_bytes disp
 displacement_are_bytes (suc (suc (suc n))) disp base h = absurd h
 
 -- ModRM alone before the displacement
-plain_named : (field disp : ℕ) (b : Reg) (mode : ℕ) → field < 8 → disp < 2 ^ 32 → (reg_number b ≡ 4 → ⊥) → IsMode disp (reg_number b) mode → Named (modrm mode field (reg_number b) ∷ displacement_by mode disp) field (M (record { base = Some b; index = None; disp = disp }))
+plain_named : (field disp : ℕ) (b : Reg) (mode : ℕ) → field < 8 → disp < 2 ^ 32 → (reg_number b ≡ 4 → ⊥) → IsMode disp (reg_number b) mode → Named (modrm mode field (reg_number b) ∷ displacement_by mode disp) field (M (record { base = Some b; index = None; disp = disp; gs = false }))
 plain_named field disp b mode f l four m =
     let s : List ℕ = modrm mode field (reg_number b) ∷ displacement_by mode disp in
     let p = fields mode field (reg_number b) f (reg_low b) in
@@ -223,7 +242,7 @@ plain_named field disp b mode f l four m =
     }
 
 -- ModRM and SIB before the displacement
-sib_named : (field disp : ℕ) (b : Reg) (index : Option (Reg × ℕ)) (mode y : ℕ) → field < 8 → disp < 2 ^ 32 → IsMode disp (reg_number b) mode → y < 256 → y % 8 ≡ reg_number b → index_by y ≡ index → Named (modrm mode field 4 ∷ y ∷ displacement_by mode disp) field (M (record { base = Some b; index = index; disp = disp }))
+sib_named : (field disp : ℕ) (b : Reg) (index : Option (Reg × ℕ)) (mode y : ℕ) → field < 8 → disp < 2 ^ 32 → IsMode disp (reg_number b) mode → y < 256 → y % 8 ≡ reg_number b → index_by y ≡ index → Named (modrm mode field 4 ∷ y ∷ displacement_by mode disp) field (M (record { base = Some b; index = index; disp = disp; gs = false }))
 sib_named field disp b index mode y f l m byte base ix =
     let s : List ℕ = modrm mode field 4 ∷ y ∷ displacement_by mode disp in
     let p = fields mode field 4 f (omega arith) in
@@ -238,7 +257,7 @@ sib_named field disp b index mode y f l m byte base ix =
       bytes = bytes_after (modrm mode field 4) (y ∷ displacement_by mode disp) (omega (arith, low.0)) (bytes_after y (displacement_by mode disp) byte (displacement_are_bytes mode disp (reg_number b) m));
     }
 
-absolute_named : (field disp : ℕ) → field < 8 → disp < 2 ^ 32 → Named (modrm 0 field 5 ∷ dword_bytes disp) field (M (record { base = None; index = None; disp = disp }))
+absolute_named : (field disp : ℕ) → field < 8 → disp < 2 ^ 32 → Named (modrm 0 field 5 ∷ dword_bytes disp) field (M (record { base = None; index = None; disp = disp; gs = false }))
 absolute_named field disp f l =
     let s : List ℕ = modrm 0 field 5 ∷ dword_bytes disp in
     let p = fields 0 field 5 f (omega arith) in
@@ -246,7 +265,7 @@ absolute_named field disp f l =
     let d = displaced_named s 1 disp 0 2 (record { place = w.place; a = refl; b = refl; c = refl; d = refl }) tt l in
     record { size = w.size; reg = p.field; names = w.names; rm = w.rm ∙ mem_same _ _ _ _ _ _ refl refl d; bytes = bytes_after (modrm 0 field 5) (dword_bytes disp) (omega arith) (dword_are_bytes disp) }
 
-index_named : (field disp : ℕ) (index : Option (Reg × ℕ)) (y : ℕ) → field < 8 → disp < 2 ^ 32 → y < 256 → y % 8 ≡ 5 → index_by y ≡ index → Named (modrm 0 field 4 ∷ y ∷ dword_bytes disp) field (M (record { base = None; index = index; disp = disp }))
+index_named : (field disp : ℕ) (index : Option (Reg × ℕ)) (y : ℕ) → field < 8 → disp < 2 ^ 32 → y < 256 → y % 8 ≡ 5 → index_by y ≡ index → Named (modrm 0 field 4 ∷ y ∷ dword_bytes disp) field (M (record { base = None; index = index; disp = disp; gs = false }))
 index_named field disp index y f l byte base ix =
     let s : List ℕ = modrm 0 field 4 ∷ y ∷ dword_bytes disp in
     let p = fields 0 field 4 f (omega arith) in
@@ -285,30 +304,31 @@ is_index i factor bits e = go (scale_of factor) refl e
 named_by : (s t : List ℕ) (field : ℕ) (x : Rm) → s ≡ t → Named s field x → Named t field x
 named_by s t field x e h = subst (λ (u : List ℕ). Named u field x) e h
 
-based_named : (field disp : ℕ) (b : Reg) → field < 8 → disp < 2 ^ 32 → Named (based field (reg_number b) disp) field (M (record { base = Some b; index = None; disp = disp }))
+based_named : (field disp : ℕ) (b : Reg) → field < 8 → disp < 2 ^ 32 → Named (based field (reg_number b) disp) field (M (record { base = Some b; index = None; disp = disp; gs = false }))
 based_named field disp b f l = go (reg_number b == 4) refl
   where
-    go : (v : Bool) → (reg_number b == 4) ≡ v → Named (if v then modrm (mode_of disp (reg_number b)) field 4 ∷ 0x24 ∷ displacement_by (mode_of disp (reg_number b)) disp else modrm (mode_of disp (reg_number b)) field (reg_number b) ∷ displacement_by (mode_of disp (reg_number b)) disp) field (M (record { base = Some b; index = None; disp = disp }))
+    go : (v : Bool) → (reg_number b == 4) ≡ v → Named (if v then modrm (mode_of disp (reg_number b)) field 4 ∷ 0x24 ∷ displacement_by (mode_of disp (reg_number b)) disp else modrm (mode_of disp (reg_number b)) field (reg_number b) ∷ displacement_by (mode_of disp (reg_number b)) disp) field (M (record { base = Some b; index = None; disp = disp; gs = false }))
     go true e = sib_named field disp b None (mode_of disp (reg_number b)) 0x24 f l (mode_is disp (reg_number b)) (omega arith) (sym (eqb-true (reg_number b) 4 e)) refl
     go false e = plain_named field disp b (mode_of disp (reg_number b)) f l (eqb-false (reg_number b) 4 e) (mode_is disp (reg_number b))
 
-memory_named : (field : ℕ) (b : Option Reg) (x : Option (Reg × ℕ)) (disp : ℕ) (s : List ℕ) → field < 8 → disp < 2 ^ 32 → memory_bytes field b x disp ≡ Some s → Named s field (M (record { base = b; index = x; disp = disp }))
+memory_named : (field : ℕ) (b : Option Reg) (x : Option (Reg × ℕ)) (disp : ℕ) (s : List ℕ) → field < 8 → disp < 2 ^ 32 → memory_bytes field b x disp ≡ Some s → Named s field (M (record { base = b; index = x; disp = disp; gs = false }))
 memory_named field None None disp s f l e = named_by _ s field _ (cc e) (absolute_named field disp f l)
 memory_named field None (Some (i, k)) disp s f l e = go (index_bits i k) refl e
   where
-    go : (o : Option ℕ) → index_bits i k ≡ o → indexed field o disp ≡ Some s → Named s field (M (record { base = None; index = Some (i, k); disp = disp }))
+    go : (o : Option ℕ) → index_bits i k ≡ o → indexed field o disp ≡ Some s → Named s field (M (record { base = None; index = Some (i, k); disp = disp; gs = false }))
     go None g h = absurd (cc h)
     go (Some bits) g h = let w = is_index i k bits g in named_by _ s field _ (cc h) (index_named field disp (Some (i, k)) (bits + 5) f l (omega (arith, w.most)) (omega (arith, w.low)) (w.named 5 (omega arith)))
 memory_named field (Some b) None disp s f l e = named_by _ s field _ (cc e) (based_named field disp b f l)
 memory_named field (Some b) (Some (i, k)) disp s f l e = go (index_bits i k) refl e
   where
-    go : (o : Option ℕ) → index_bits i k ≡ o → indexed_from field (reg_number b) o disp ≡ Some s → Named s field (M (record { base = Some b; index = Some (i, k); disp = disp }))
+    go : (o : Option ℕ) → index_bits i k ≡ o → indexed_from field (reg_number b) o disp ≡ Some s → Named s field (M (record { base = Some b; index = Some (i, k); disp = disp; gs = false }))
     go None g h = absurd (cc h)
     go (Some bits) g h =
         let w = is_index i k bits g in
         named_by _ s field _ (cc h) (sib_named field disp b (Some (i, k)) (mode_of disp (reg_number b)) (bits + reg_number b) f l (mode_is disp (reg_number b)) (omega (arith, w.most, reg_low b)) (omega (arith, w.low, reg_low b)) (w.named (reg_number b) (reg_low b)))
 
-pub address_named : (field : ℕ) (x : Rm) (s : List ℕ) → field < 8 → address_bytes field x ≡ Some s → Named s field x
+-- bytes name memory, and not whether it is relative to GS
+pub address_named : (field : ℕ) (x : Rm) (s : List ℕ) → field < 8 → address_bytes field x ≡ Some s → Named s field (with_gs false x)
 address_named field (R r) s f e = named_by _ s field _ (cc e) named
   where
     named : Named (modrm 3 field (reg_number r) ∷ []) field (R r)
@@ -318,7 +338,7 @@ address_named field (R r) s f e = named_by _ s field _ (cc e) named
         record { size = w.size; reg = p.field; names = w.names; rm = w.rm ∙ ap (λ (n : ℕ). R (reg_of n)) p.rm ∙ ap R (reg_back r); bytes = bytes_after (modrm 3 field (reg_number r)) [] (omega (arith, reg_low r)) no_bytes }
 address_named field (M m) s f e = go (cases_lt m.disp (2 ^ 32)) e
   where
-    go : (m.disp < 2 ^ 32) ⊎ (2 ^ 32 ≤ m.disp) → (if nat_lt m.disp (2 ^ 32) then memory_bytes field m.base m.index m.disp else None) ≡ Some s → Named s field (M m)
+    go : (m.disp < 2 ^ 32) ⊎ (2 ^ 32 ≤ m.disp) → (if nat_lt m.disp (2 ^ 32) then memory_bytes field m.base m.index m.disp else None) ≡ Some s → Named s field (with_gs false (M m))
     go (inl l) h = memory_named field m.base m.index m.disp s f l (sym (ap (λ (v : Bool). if v then memory_bytes field m.base m.index m.disp else None) (lt-ltb m.disp (2 ^ 32) l)) ∙ h)
     go (inr l) h = absurd (cc (ap (λ (v : Bool). if v then memory_bytes field m.base m.index m.disp else None) (le-ltb m.disp (2 ^ 32) l), h))
 

@@ -1,6 +1,6 @@
 -- The least over an instruction's candidates and their rows is the least of all its spellings.
 use Rattle.std.proofs.Common.{◌≡◌, ℕ, suc, ◌+◌, Bool, true, false, List, [], ◌∷◌, ◌++◌, length, Option, Some, None, refl, sym, ◌∙◌, ap, subst, inl, inr, arith, take_all}
-use Rattle.std.specs.Prelude.{not, ◌&&◌, ◌||◌, if◌then◌else◌}
+use Rattle.std.specs.Prelude.{◌≤◌, not, ◌&&◌, ◌||◌, IfSome, if◌then◌else◌}
 use Rattle.std.proofs.lemmas.List.{length-append, take-append-le}
 use Rattle.mv_base.specs.Bytes.{AreBytes}
 use Rattle.x86_insn.specs.declared.insn.Insn.{Insn}
@@ -28,7 +28,8 @@ use Rattle.x86_encode.specs.Candidates.{general, special}
 use Rattle.x86_encode.specs.Slots.{byte_row, full_row, short_row}
 use Rattle.x86_encode.specs.Least.{lesser, by_row, by_rows, by_candidate, least}
 use Rattle.x86_encode.specs.laws.Ordered.{Decided, upto_test, upto_chain, upto_both}
-use Rattle.x86_encode.specs.laws.Taken.{uses, taken, Allowed, offered, MeansTo, Limited, general_means, special_means}
+use Rattle.x86_encode.specs.laws.Addressed.{memory_with}
+use Rattle.x86_encode.specs.laws.Taken.{uses, taken, Allowed, offered, MeansTo, Limited, general_means, special_means, Agreed, general_agrees, special_agrees}
 use Rattle.x86_encode.specs.laws.Tabled.{Slot, AtByte, AtFull, AtShort, slot_row, slot_of, slotted, is_nop, is_escape, IsLongNop, is_lea, only_memory, RowFits, fitted, SlotRow, slot_facts}
 use Rattle.x86_encode.specs.laws.Spelt.{row_limited, row_spells}
 use Rattle.x86_encode.specs.laws.Covered.{RowLeast, row_least}
@@ -74,29 +75,29 @@ lesser_right t (Some s) (Some q) h = go (is_upto s q) (upto_test s q (is_upto s 
 
 -- ---- what is chosen spells the instruction
 
-row_good : (s : Slot) (c : Candidate) (i : Insn) → MeansTo (Some c) i → Good i (by_row (slot_row s c.kind) c.operands)
-row_good s c i means = go (slot_row s c.kind) refl
+row_good : (s : Slot) (c : Candidate) (i : Insn) → Agreed (Some c) → MeansTo (Some c) i → Good i (by_row (slot_row s c.kind) c.operands)
+row_good s c i agrees means = go (slot_row s c.kind) refl
   where
     made : (r : Row) (o : Option (List ℕ)) → SlotRow c.kind r → assembled r c.operands ≡ o → Good i o
     made r None f e = tt
     made r (Some q) f e =
         let limit = row_limited r c.operands q f.fits e in
         let meant : meaning r.form.kind c.operands ≡ i = ap (λ (k : Kind). meaning k c.operands) f.kind ∙ means (subst (λ (k : Kind). Limited (uses k).immediate c.operands.immediate) f.kind limit) in
-        row_spells r c.operands q i f.listed f.fits e meant
+        row_spells r c.operands q i f.listed f.fits e agrees meant
 
     go : (x : Option Row) → slot_row s c.kind ≡ x → Good i (by_row x c.operands)
     go None e = tt
     go (Some r) e = made r (assembled r c.operands) (slot_facts s c.kind r e) refl
 
-candidate_good : (x : Option Candidate) (i : Insn) → MeansTo x i → Good i (by_candidate x)
+candidate_good : (x : Option Candidate) (i : Insn) → Agreed x → MeansTo x i → Good i (by_candidate x)
 unfolding by_rows
-candidate_good None i means = tt
-candidate_good (Some c) i means =
-    lesser_good i _ _ (row_good AtByte c i means) (lesser_good i _ _ (row_good AtFull c i means) (row_good AtShort c i means))
+candidate_good None i agrees means = tt
+candidate_good (Some c) i agrees means =
+    lesser_good i _ _ (row_good AtByte c i agrees means) (lesser_good i _ _ (row_good AtFull c i agrees means) (row_good AtShort c i agrees means))
 
 least_good : (i : Insn) → Good i (least i)
 unfolding least
-least_good i = lesser_good i _ _ (candidate_good (general i) i (general_means i)) (candidate_good (special i) i (special_means i))
+least_good i = lesser_good i _ _ (candidate_good (general i) i (general_agrees i) (general_means i)) (candidate_good (special i) i (special_agrees i) (special_means i))
 
 -- ---- nothing that spells it is less
 
@@ -143,7 +144,7 @@ fitted_below i t w f slot =
     let o = operands_of w.row.form m w.opcode w.operands in
     let a = both_true (takes_digit w.row.form.digit (reg_field (from_modrm w.row.form w.operands)) && takes_operand w.row.form.layout (names_memory (from_modrm w.row.form w.operands))) _ w.modrm in
     let b = both_true (takes_digit w.row.form.digit (reg_field (from_modrm w.row.form w.operands))) _ a.0 in
-    let allowed : Allowed k o = allowed_by k o (λ e. names_rm (from_modrm w.row.form w.operands) (lea_memory w.row.form.layout _ (needs (is_lea k) _ f.lea e) b.1)) in
+    let allowed : Allowed k o = allowed_by k o (λ e. memory_with m.gs (rm_of (from_modrm w.row.form w.operands)) ∙ names_rm (from_modrm w.row.form w.operands) (lea_memory w.row.form.layout _ (needs (is_lea k) _ f.lea e) b.1)) in
     let c : Candidate = record { kind = k; operands = taken (uses k) o } in
     let bytes : AreBytes w.operands = λ n. bytes_behind (w.prefixes ++ lead_bytes w.row.lead) (w.opcode ∷ w.operands) (subst AreBytes w.parts w.bytes) (suc n) in
     let v = row_least w.row m w.opcode w.operands f bytes w.is_opcode w.marks w.modrm w.whole w.prefixes refl in
@@ -193,6 +194,11 @@ least_of i = go (least i) (least_good i) (least_below i)
     go (Some s) g h = record { spells = g; least = h }
 
 -- ---- laws
+
+-- what is least has at most 15 bytes
+pub least_short : (i : Insn) (o : Option (List ℕ)) → IsLeastOf i o → IfSome o (λ s. length s ≤ 15)
+least_short i None h = tt
+least_short i (Some s) h = h.spells.limit
 
 pub decodes_again : (i : Insn) (s rest : List ℕ) → IsLeast i s → decoded (s ++ rest) ≡ Some (i, length s)
 decodes_again i s rest w = decoded_of (length s) (s ++ rest) i (ap spelled (take-append-le (length s) s rest (omega arith) ∙ take_all (length s) s (omega arith)) ∙ spells_spelled s i w.spells) (omega (arith, length-append s rest))

@@ -7,6 +7,7 @@ use Rattle.mv_base.specs.Bytes.{AreBytes}
 use Rattle.x86_insn.specs.declared.insn.Reg.TheVariants.{Eax}
 use Rattle.x86_insn.specs.declared.insn.Rep.{Rep}
 use Rattle.x86_insn.specs.declared.insn.Rep.TheVariants.{Once, F3, F2}
+use Rattle.x86_insn.specs.declared.insn.Rm.{Rm}
 use Rattle.x86_insn.specs.declared.insn.Rm.TheVariants as rm
 use Rattle.x86_insn.specs.declared.insn.Width.{Width}
 use Rattle.x86_insn.specs.declared.row.Immediate.{Immediate}
@@ -19,49 +20,59 @@ use Rattle.x86_insn.specs.declared.row.Row.{Row}
 use Rattle.x86_insn.specs.declared.row.Marks.{Marks}
 use Rattle.x86_insn.specs.declared.row.Operands.{Operands}
 use Rattle.x86_insn.specs.State.{reg_number}
-use Rattle.x86_insn.specs.Addressing.{byte_at, reg_of, reg_field, names_memory, memory_of, rm_field, address_length, rm_of}
+use Rattle.x86_insn.specs.Addressing.{byte_at, reg_of, reg_field, names_memory, memory_of, rm_field, address_length, rm_of, with_gs}
 use Rattle.x86_insn.specs.Meaning.{cond_of, cond_number}
 use Rattle.x86_insn.specs.Prefixes.{marks_of}
-use Rattle.x86_insn.specs.Spelling.{lead_bytes, width_of, has_modrm, takes_digit, takes_operand, takes_repeat, takes_word, takes_marks, takes_modrm, immediate_length, immediate_of, immediate_place, addressed, from_modrm, form_width, operand_length, operands_of, is_opcode}
+use Rattle.x86_insn.specs.Spelling.{lead_bytes, width_of, has_modrm, takes_digit, takes_operand, takes_repeat, takes_word, takes_gs, takes_marks, asks_memory, takes_modrm, immediate_length, immediate_of, immediate_place, addressed, from_modrm, form_width, operand_length, operands_of, is_opcode}
 use Rattle.x86_insn.specs.Agreeing.{both_true, and_true}
 use Rattle.x86_encode.specs.Order.{Upto}
 use Rattle.x86_encode.specs.Address.{address_bytes}
 use Rattle.x86_encode.specs.Assembling.{same_width, is_memory, prefix_bytes, immediate_bytes, opcode_byte, field_of, takes, addressed_bytes, both, operand_bytes, front_bytes, behind, assembled}
-use Rattle.x86_encode.specs.Candidates.{is_word}
+use Rattle.x86_encode.specs.Candidates.{is_word, is_gs}
 use Rattle.x86_encode.specs.laws.Ordered.{upto_self, upto_same, upto_joined}
 use Rattle.x86_encode.specs.laws.Leading.{Within, prefixes_least}
-use Rattle.x86_encode.specs.laws.Addressed.{number_back}
+use Rattle.x86_encode.specs.laws.Addressed.{number_back, gs_with, memory_with, address_with}
 use Rattle.x86_encode.specs.laws.Shortest.{address_least}
 use Rattle.x86_encode.specs.laws.Immediates.{immediate_behind, immediate_made}
-use Rattle.x86_encode.specs.laws.Taken.{WidthUse, Given, Long, Short, RepeatUse, OnceOnly, Kept, Stands, NumberUse, NoNumber, ByRegister, ByCondition, ImmediateUse, Unused, Whole, LowByte, LowHalf, Uses, uses, width_by, rep_by, number_by, immediate_by, taken}
+use Rattle.x86_encode.specs.laws.Taken.{WidthUse, Given, Long, Short, Selector, OperandUse, NoOperand, Named, AtImmediate, RepeatUse, OnceOnly, Kept, Stands, NumberUse, NoNumber, ByRegister, ByCondition, ImmediateUse, Unused, Whole, LowByte, LowHalf, Uses, uses, width_by, operand_by, rep_by, number_by, immediate_by, taken}
 use Rattle.x86_encode.specs.laws.Tabled.{either_true, fits_width, fits_repeat, fits_field, fits_number, fits_immediate, RowFits}
-use Rattle.x86_encode.specs.laws.Spelt.{with_modrm, without_modrm, any_operand}
+use Rattle.x86_encode.specs.laws.Spelt.{with_modrm, without_modrm, any_operand, or_true, named_operand}
 
 -- ---- single columns
 
 -- the width that is taken, of a row
-record WidthTaken (k : WidthUse) (s : Size) (i : Immediate) (word : Bool) : Type 0 where
-  same : same_width (width_of s (is_word (width_by k (width_of s word)))) (width_by k (width_of s word)) ≡ true
-  takes : (not (is_word (width_by k (width_of s word))) || takes_word s) ≡ true
-  within : is_word (width_by k (width_of s word)) ≡ true → word ≡ true
-  immediate : (n : ℕ) → immediate_bytes i (width_by k (width_of s word)) n ≡ immediate_bytes i (width_of s word) n
+record WidthTaken (k : WidthUse) (x : Rm) (s : Size) (i : Immediate) (word : Bool) : Type 0 where
+  same : same_width (width_of s (is_word (width_by k x (width_of s word)))) (width_by k x (width_of s word)) ≡ true
+  takes : (not (is_word (width_by k x (width_of s word))) || takes_word s) ≡ true
+  within : is_word (width_by k x (width_of s word)) ≡ true → word ≡ true
+  immediate : (n : ℕ) → immediate_bytes i (width_by k x (width_of s word)) n ≡ immediate_bytes i (width_of s word) n
 
-width_taken : (k : WidthUse) (s : Size) (i : Immediate) (word : Bool) → fits_width k s i ≡ true → WidthTaken k s i word
-width_taken Given Byte i word h = record { same = refl; takes = refl; within = λ e. absurd (cc e); immediate = λ n. refl }
-width_taken Given Vary i true h = record { same = refl; takes = refl; within = λ e. refl; immediate = λ n. refl }
-width_taken Given Vary i false h = record { same = refl; takes = refl; within = λ e. absurd (cc e); immediate = λ n. refl }
-width_taken Given Dword i word h = record { same = refl; takes = refl; within = λ e. absurd (cc e); immediate = λ n. refl }
-width_taken Long Byte i word h = absurd (cc h)
-width_taken Long Vary Absent word h = record { same = refl; takes = refl; within = λ e. absurd (cc e); immediate = λ n. refl }
-width_taken Long Vary Ib word h = absurd (cc h)
-width_taken Long Vary SignedIb word h = absurd (cc h)
-width_taken Long Vary Iw word h = absurd (cc h)
-width_taken Long Vary Id word h = absurd (cc h)
-width_taken Long Vary Iz word h = absurd (cc h)
-width_taken Long Dword i word h = record { same = refl; takes = refl; within = λ e. absurd (cc e); immediate = λ n. refl }
-width_taken Short Byte i word h = record { same = refl; takes = refl; within = λ e. absurd (cc e); immediate = λ n. refl }
-width_taken Short Vary i word h = absurd (cc h)
-width_taken Short Dword i word h = absurd (cc h)
+width_taken : (k : WidthUse) (x : Rm) (s : Size) (i : Immediate) (word : Bool) → fits_width k s i ≡ true → WidthTaken k x s i word
+width_taken Given x Byte i word h = record { same = refl; takes = refl; within = λ e. absurd (cc e); immediate = λ n. refl }
+width_taken Given x Vary i true h = record { same = refl; takes = refl; within = λ e. refl; immediate = λ n. refl }
+width_taken Given x Vary i false h = record { same = refl; takes = refl; within = λ e. absurd (cc e); immediate = λ n. refl }
+width_taken Given x Dword i word h = record { same = refl; takes = refl; within = λ e. absurd (cc e); immediate = λ n. refl }
+width_taken Long x Byte i word h = absurd (cc h)
+width_taken Long x Vary Absent word h = record { same = refl; takes = refl; within = λ e. absurd (cc e); immediate = λ n. refl }
+width_taken Long x Vary Ib word h = absurd (cc h)
+width_taken Long x Vary SignedIb word h = absurd (cc h)
+width_taken Long x Vary Iw word h = absurd (cc h)
+width_taken Long x Vary Id word h = absurd (cc h)
+width_taken Long x Vary Iz word h = absurd (cc h)
+width_taken Long x Dword i word h = record { same = refl; takes = refl; within = λ e. absurd (cc e); immediate = λ n. refl }
+width_taken Short x Byte i word h = record { same = refl; takes = refl; within = λ e. absurd (cc e); immediate = λ n. refl }
+width_taken Short x Vary i word h = absurd (cc h)
+width_taken Short x Dword i word h = absurd (cc h)
+width_taken Selector x Byte i word h = absurd (cc h)
+width_taken Selector (rm.R r) Vary Absent true h = record { same = refl; takes = refl; within = λ e. refl; immediate = λ n. refl }
+width_taken Selector (rm.R r) Vary Absent false h = record { same = refl; takes = refl; within = λ e. absurd (cc e); immediate = λ n. refl }
+width_taken Selector (rm.M m) Vary Absent word h = record { same = refl; takes = refl; within = λ e. absurd (cc e); immediate = λ n. refl }
+width_taken Selector x Vary Ib word h = absurd (cc h)
+width_taken Selector x Vary SignedIb word h = absurd (cc h)
+width_taken Selector x Vary Iw word h = absurd (cc h)
+width_taken Selector x Vary Id word h = absurd (cc h)
+width_taken Selector x Vary Iz word h = absurd (cc h)
+width_taken Selector x Dword i word h = absurd (cc h)
 
 rep_taken : (k : RepeatUse) (q : Repeat) (p : Rep) → fits_repeat k q ≡ true → takes_repeat q p ≡ true → (takes_repeat q (rep_by k p) ≡ true) × ((rep_by k p ≡ Once) ⊎ (rep_by k p ≡ p))
 rep_taken OnceOnly Never p h t = (refl, inl refl)
@@ -175,13 +186,29 @@ record OperandsLeast (r : Row) (o : Operands) (t : List ℕ) : Type 0 where
   made : operand_bytes r o ≡ Some bytes
   least : Upto bytes t
 
-locked_taken : (k lock v : Bool) → (not lock || v) ≡ true → (not (if k then lock else false) || v) ≡ true
-locked_taken true lock v h = h
-locked_taken false lock v h = refl
+-- F0 and 65 ask for memory, and that is the operand's where it is relative to GS
+asked_taken : (lock : Bool) (x : Rm) → (lock ≡ true → is_memory x ≡ true) → (not (lock || is_gs x) || is_memory x) ≡ true
+asked_taken true x h = h refl
+asked_taken false (rm.R r) h = refl
+asked_taken false (rm.M m) h = or_true (not m.gs)
 
-unlocked : (lock can v : Bool) → (not lock || can) ≡ true → can ≡ false → (not lock || v) ≡ true
-unlocked false can v h e = refl
-unlocked true can v h e = absurd (cc (h, e))
+lock_names : (lock gs v : Bool) → (not (lock || gs) || v) ≡ true → lock ≡ true → v ≡ true
+lock_names true gs v h e = h
+lock_names false gs v h e = absurd (cc e)
+
+not_locked : (lock can : Bool) → (not lock || can) ≡ true → can ≡ false → lock ≡ true → ⊥
+not_locked true can h e l = absurd (cc (h, e))
+not_locked false can h e l = absurd (cc l)
+
+gs_within : (k : OperandUse) (g : Bool) (x : Rm) (n : ℕ) → is_gs (operand_by k g (with_gs g x) n) ≡ true → g ≡ true
+gs_within NoOperand g x n h = absurd (cc h)
+gs_within Named g x n h = gs_with g x h
+gs_within AtImmediate g x n h = h
+
+weaker : (a b c : Bool) → (a ≡ true → b ≡ true) → (not b || c) ≡ true → (not a || c) ≡ true
+weaker false b c h t = refl
+weaker true true c h t = t
+weaker true false c h t = absurd (cc (h refl))
 
 module _ (r : Row) (m : Marks) (c : ℕ) (s : List ℕ) (f : RowFits r) (bytes : AreBytes s) (in_span : is_opcode r c ≡ true) (marks : takes_marks r.form m ≡ true) (modrm : takes_modrm r.form m s ≡ true) (size : length s ≡ operand_length r.form m s) where
   abbrev u : Uses
@@ -190,18 +217,19 @@ module _ (r : Row) (m : Marks) (c : ℕ) (s : List ℕ) (f : RowFits r) (bytes :
   abbrev o : Operands
   o = taken (uses r.form.kind) (operands_of r.form m c s)
 
-  width : WidthTaken u.width r.form.size r.form.immediate m.word
-  width = width_taken u.width r.form.size r.form.immediate m.word f.width
+  width : WidthTaken u.width o.rm r.form.size r.form.immediate m.word
+  width = width_taken u.width o.rm r.form.size r.form.immediate m.word f.width
 
-  marks_parts : ((not m.word || takes_word r.form.size) ≡ true) × (takes_repeat r.form.repeat m.rep ≡ true) × ((not m.lock || r.form.lock) ≡ true)
+  marks_parts : ((not m.word || takes_word r.form.size) ≡ true) × (takes_repeat r.form.repeat m.rep ≡ true) × ((not m.lock || r.form.lock) ≡ true) × ((not m.gs || takes_gs r.form) ≡ true)
   marks_parts =
-      let a = both_true _ (not m.lock || r.form.lock) marks in
+      let g = both_true _ (not m.gs || takes_gs r.form) marks in
+      let a = both_true _ (not m.lock || r.form.lock) g.0 in
       let b = both_true (not m.word || takes_word r.form.size) _ a.0 in
-      (b.0, b.1, a.1)
+      (b.0, b.1, a.1, g.1)
 
-  modrm_parts : (takes_digit r.form.digit (reg_field (from_modrm r.form s)) ≡ true) × (takes_operand r.form.layout (names_memory (from_modrm r.form s)) ≡ true) × ((not m.lock || names_memory (from_modrm r.form s)) ≡ true)
+  modrm_parts : (takes_digit r.form.digit (reg_field (from_modrm r.form s)) ≡ true) × (takes_operand r.form.layout (names_memory (from_modrm r.form s)) ≡ true) × ((not (asks_memory m) || names_memory (from_modrm r.form s)) ≡ true)
   modrm_parts =
-      let a = both_true _ (not m.lock || names_memory (from_modrm r.form s)) modrm in
+      let a = both_true _ (not (asks_memory m) || names_memory (from_modrm r.form s)) modrm in
       let b = both_true (takes_digit r.form.digit (reg_field (from_modrm r.form s))) _ a.0 in
       (b.0, b.1, a.1)
 
@@ -210,12 +238,19 @@ module _ (r : Row) (m : Marks) (c : ℕ) (s : List ℕ) (f : RowFits r) (bytes :
       let w = both_true (nat_le r.opcode c) _ in_span in
       number_made u.number r.span r.opcode c f.number f.opcode (leb-true r.opcode c w.0) (ltb-true c (r.opcode + r.span) w.1)
 
+  gs_kept : o.marks.gs ≡ true → m.gs ≡ true
+  gs_kept = gs_within u.operand m.gs (rm_of (from_modrm r.form s)) (immediate_of r.form.immediate (form_width r.form m) s (immediate_place (has_modrm r.form.layout) s))
+
+  lock_kept : o.marks.lock ≡ true → m.lock ≡ true
+  lock_kept = (lock_taken u.lock r.form.lock m.lock f.lock marks_parts.2).1
+
   within : (p : List ℕ) → m ≡ marks_of p → Within o.marks (marks_of p)
   within p e =
       subst (Within o.marks) e (record {
         word = width.within;
-        lock = (lock_taken u.lock r.form.lock m.lock f.lock marks_parts.2).1;
+        lock = lock_kept;
         rep = (rep_taken u.rep r.form.repeat m.rep f.repeat marks_parts.1).1;
+        gs = gs_kept;
       })
 
   -- the bytes of the immediate
@@ -235,19 +270,19 @@ module _ (r : Row) (m : Marks) (c : ℕ) (s : List ℕ) (f : RowFits r) (bytes :
   record Behind : Type 0 where
     operands : OperandsLeast r o s
     operand : takes_operand r.form.layout (is_memory o.rm) ≡ true
-    locked : (not o.marks.lock || is_memory o.rm) ≡ true
+    asked : (not (asks_memory o.marks) || is_memory o.rm) ≡ true
 
   with_address : has_modrm r.form.layout ≡ true → Behind
   with_address e =
-      let g = with_modrm r.form.layout u.reg u.rm r.form.lock r.form.digit e f.modrm in
+      let g = with_modrm r.form.layout u.reg u.operand r.form.lock r.form.digit e f.modrm in
       let from : from_modrm r.form s ≡ s = ap (λ (v : Bool). addressed v s) e in
-      let x : o.rm ≡ rm_of s = ap (λ (v : Bool). if v then rm_of (from_modrm r.form s) else rm.R Eax) g.0 ∙ ap rm_of from in
-      let names : is_memory o.rm ≡ names_memory (from_modrm r.form s) = ap is_memory x ∙ memory_names s ∙ ap names_memory (sym from) in
+      let x : o.rm ≡ with_gs m.gs (rm_of s) = named_operand u.operand m.gs (with_gs m.gs (rm_of (from_modrm r.form s))) _ g.0 ∙ ap (λ (b : List ℕ). with_gs m.gs (rm_of b)) from in
+      let names : is_memory o.rm ≡ names_memory (from_modrm r.form s) = ap is_memory x ∙ memory_with m.gs (rm_of s) ∙ memory_names s ∙ ap names_memory (sym from) in
       let field : field_of r.form.digit o.reg ≡ reg_field s = field_made r.form.digit u.reg (reg_field (from_modrm r.form s)) (omega arith) g.1 modrm_parts.0 ∙ ap reg_field from in
       let place : immediate_place (has_modrm r.form.layout) s ≡ address_length s = ap (λ (v : Bool). immediate_place v s) e in
       let whole : length s ≡ address_length s + immediate_length r.form.immediate (form_width r.form m) = omega (arith, size, place) in
       let a = address_least s bytes (omega arith) in
-      let addressed : addressed_bytes (has_modrm r.form.layout) (field_of r.form.digit o.reg) o.rm ≡ Some a.bytes = ap (λ (v : Bool). addressed_bytes v (field_of r.form.digit o.reg) o.rm) e ∙ ap₂ address_bytes field x ∙ a.made in
+      let addressed : addressed_bytes (has_modrm r.form.layout) (field_of r.form.digit o.reg) o.rm ≡ Some a.bytes = ap (λ (v : Bool). addressed_bytes v (field_of r.form.digit o.reg) o.rm) e ∙ ap₂ address_bytes field x ∙ address_with (reg_field s) m.gs (rm_of s) ∙ a.made in
       let b : List ℕ = drop (address_length s) s in
       let imm = immediate_part (address_length s) (omega arith) place whole in
       record {
@@ -257,12 +292,12 @@ module _ (r : Row) (m : Marks) (c : ℕ) (s : List ℕ) (f : RowFits r) (bytes :
           least = subst (Upto (a.bytes ++ b)) (take-append-drop (address_length s) s) (upto_joined a.bytes (take (address_length s) s) b b a.least (upto_self b));
         };
         operand = ap (takes_operand r.form.layout) names ∙ modrm_parts.1;
-        locked = locked_taken u.lock m.lock (is_memory o.rm) (ap (λ (v : Bool). not m.lock || v) names ∙ modrm_parts.2);
+        asked = asked_taken o.marks.lock o.rm (λ e. names ∙ lock_names m.lock m.gs _ modrm_parts.2 (lock_kept e));
       }
 
   without_address : has_modrm r.form.layout ≡ false → Behind
   without_address e =
-      let g = without_modrm r.form.layout u.reg u.rm r.form.lock r.form.digit e f.modrm in
+      let g = without_modrm r.form.layout u.reg u.operand r.form.lock r.form.digit e f.modrm in
       let place : immediate_place (has_modrm r.form.layout) s ≡ 0 = ap (λ (v : Bool). immediate_place v s) e in
       let imm = immediate_part 0 (omega arith) place (omega (arith, size, place)) in
       record {
@@ -272,7 +307,7 @@ module _ (r : Row) (m : Marks) (c : ℕ) (s : List ℕ) (f : RowFits r) (bytes :
           least = upto_self s;
         };
         operand = any_operand r.form.layout (is_memory o.rm) e;
-        locked = unlocked o.marks.lock r.form.lock (is_memory o.rm) (lock_taken u.lock r.form.lock m.lock f.lock marks_parts.2).0 g.no_lock;
+        asked = asked_taken o.marks.lock o.rm (λ e. absurd (not_locked m.lock r.form.lock marks_parts.2 g.no_lock (lock_kept e)));
       }
 
   behind_opcode : Behind
@@ -286,8 +321,9 @@ module _ (r : Row) (m : Marks) (c : ℕ) (s : List ℕ) (f : RowFits r) (bytes :
   takes_taken w =
       let rep = (rep_taken u.rep r.form.repeat m.rep f.repeat marks_parts.1).0 in
       let lock = (lock_taken u.lock r.form.lock m.lock f.lock marks_parts.2).0 in
-      let marked : takes_marks r.form o.marks ≡ true = and_true _ _ (and_true _ _ width.takes rep) lock in
-      and_true _ _ (and_true _ _ (and_true _ _ (and_true _ _ width.same marked) w.operand) w.locked) (ap (is_opcode r) opcode_made ∙ in_span)
+      let gs = weaker o.marks.gs m.gs (takes_gs r.form) gs_kept marks_parts.3 in
+      let marked : takes_marks r.form o.marks ≡ true = and_true _ _ (and_true _ _ (and_true _ _ width.takes rep) lock) gs in
+      and_true _ _ (and_true _ _ (and_true _ _ (and_true _ _ width.same marked) w.operand) w.asked) (ap (is_opcode r) opcode_made ∙ in_span)
 
   pub row_least : (p : List ℕ) → m ≡ marks_of p → RowLeast r o (p ++ lead_bytes r.lead ++ c ∷ s)
   unfolding assembled

@@ -1,5 +1,5 @@
--- The operand of each jump or call through an operand can be loaded into EAX, in at most seven bytes: what names it behind
--- FF names it behind 8B too.
+-- The operand of each jump or call through an operand can be loaded into EAX, in at most seven bytes, or eight where it is
+-- relative to GS: what names it behind FF names it behind 8B too.
 use Rattle.std.proofs.Common.{◌≡◌, ℕ, suc, ◌+◌, ◌^◌, ◌≤◌, Bool, true, false, ◌⊎◌, List, [], ◌∷◌, ◌++◌, length, Option, Some, None, refl, sym, ◌∙◌, ap, subst, inl, inr, arith}
 use Rattle.std.specs.Prelude.{nat_lt, if◌then◌else◌}
 use Rattle.std.proofs.lemmas.List.{length-append}
@@ -21,7 +21,7 @@ use Rattle.x86_insn.specs.declared.row.Kind.{Kind}
 use Rattle.x86_insn.specs.declared.row.Kind.TheVariants as kind
 use Rattle.x86_insn.specs.declared.row.Operands.{Operands}
 use Rattle.x86_insn.specs.declared.row.Row.{Row}
-use Rattle.x86_insn.specs.Addressing.{reg_field, address_length, rm_of}
+use Rattle.x86_insn.specs.Addressing.{reg_field, address_length, rm_of, with_gs}
 use Rattle.x86_insn.specs.State.{reg_number}
 use Rattle.x86_insn.specs.Meaning.{source_of, meaning}
 use Rattle.x86_insn.specs.Prefixes.{marks_of}
@@ -30,14 +30,14 @@ use Rattle.x86_insn.specs.Spelling.{lead_bytes, has_modrm, immediate_place, addr
 use Rattle.x86_encode.specs.Order.{Upto}
 use Rattle.x86_encode.specs.Encoding.{IsLeast, IsLeastOf}
 use Rattle.x86_encode.specs.Address.{dword_bytes, modrm, mode_of, displacement_by, based, index_bits, indexed, indexed_from, memory_bytes, address_bytes}
-use Rattle.x86_encode.specs.Assembling.{both, behind, assembled}
-use Rattle.x86_encode.specs.Candidates.{operands}
+use Rattle.x86_encode.specs.Assembling.{segment_bytes, both, behind, assembled}
+use Rattle.x86_encode.specs.Candidates.{is_gs, operands}
 use Rattle.x86_encode.specs.Slots.{full_row}
 use Rattle.x86_encode.specs.Least.{least}
-use Rattle.x86_encode.specs.laws.Addressed.{address_named, address_low}
+use Rattle.x86_encode.specs.laws.Addressed.{address_with, address_named, address_low}
 use Rattle.x86_encode.specs.laws.Shortest.{address_least}
 use Rattle.x86_encode.specs.laws.Taken.{uses}
-use Rattle.x86_encode.specs.laws.Tabled.{AtFull, is_nop, RowFits, fitted, slot_facts}
+use Rattle.x86_encode.specs.laws.Tabled.{AtFull, is_nop, is_named, RowFits, fitted, slot_facts}
 use Rattle.x86_encode.specs.laws.Spelt.{without_modrm, row_spells}
 use Rattle.x86_encode.specs.laws.Chosen.{bytes_behind, least_of}
 
@@ -76,7 +76,7 @@ via_operand (insn.CallVia x) = Some x
 via_operand i = None
 
 record Via (k : Kind) (o : Operands) (x : Rm) : Type 0 where
-  used : (uses k).rm ≡ true
+  used : is_named (uses k).operand ≡ true
   rm : o.rm ≡ x
   no_nop : is_nop k ≡ false
 
@@ -101,15 +101,16 @@ named s i x w h =
     go : RowFits w.row → (m : Bool) → has_modrm w.row.form.layout ≡ m → Addressable 0 x
     go f false e =
         let u = uses w.row.form.kind in
-        let g = without_modrm w.row.form.layout u.reg u.rm w.row.form.lock w.row.form.digit e f.modrm in
+        let g = without_modrm w.row.form.layout u.reg u.operand w.row.form.lock w.row.form.digit e f.modrm in
         absurd (cc (g.no_rm, v.used))
     go f true e =
         let from : from_modrm w.row.form w.operands ≡ w.operands = ap (λ (m : Bool). addressed m w.operands) e in
         let place : immediate_place (has_modrm w.row.form.layout) w.operands ≡ address_length w.operands = ap (λ (m : Bool). immediate_place m w.operands) e in
         let bytes : AreBytes w.operands = λ n. bytes_behind (w.prefixes ++ lead_bytes w.row.lead) (w.opcode ∷ w.operands) (subst AreBytes w.parts w.bytes) (suc n) in
         let a = address_least w.operands bytes (omega (arith, w.whole, place)) in
-        let same : x ≡ rm_of w.operands = sym v.rm ∙ ap rm_of from in
-        address_again (reg_field w.operands) 0 x a.bytes (ap (address_bytes (reg_field w.operands)) same ∙ a.made)
+        let gs = (marks_of w.prefixes).gs in
+        let same : x ≡ with_gs gs (rm_of w.operands) = sym v.rm ∙ ap (λ (b : List ℕ). with_gs gs (rm_of b)) from in
+        address_again (reg_field w.operands) 0 x a.bytes (ap (address_bytes (reg_field w.operands)) same ∙ address_with (reg_field w.operands) gs (rm_of w.operands) ∙ a.made)
 
 -- ---- what is named can be loaded
 
@@ -127,33 +128,47 @@ load_listed : full_row kind.MovRegRm ≡ Some load_row
 unfolding full_row
 load_listed = refl
 
-load_assembled : (x : Rm) (a : List ℕ) → address_bytes 0 x ≡ Some a → assembled load_row (load_operands x) ≡ Some (0x8B ∷ a ++ [])
-unfolding assembled
-load_assembled x a e = ap (λ (o : Option (List ℕ)). behind (0x8B ∷ []) (both o (Some []))) e
+-- 65 stands before what is relative to GS
+abbrev made : Bool → List ℕ → List ℕ
+made gs a = segment_bytes gs ++ 0x8B ∷ a ++ []
 
-load_spells : (x : Rm) (a : List ℕ) → address_bytes 0 x ≡ Some a → Spells (0x8B ∷ a ++ []) (load x)
+abbrev bound : Bool → ℕ
+bound gs = if gs then 8 else 7
+
+memory_assembled : (b : Option Reg) (x : Option (Reg × ℕ)) (d : ℕ) (gs : Bool) (a : List ℕ) → address_bytes 0 (M (record { base = b; index = x; disp = d; gs = gs })) ≡ Some a → assembled load_row (load_operands (M (record { base = b; index = x; disp = d; gs = gs }))) ≡ Some (made gs a)
+unfolding assembled
+memory_assembled b x d true a e = ap (λ (o : Option (List ℕ)). behind (0x65 ∷ 0x8B ∷ []) (both o (Some []))) e
+memory_assembled b x d false a e = ap (λ (o : Option (List ℕ)). behind (0x8B ∷ []) (both o (Some []))) e
+
+load_assembled : (x : Rm) (a : List ℕ) → address_bytes 0 x ≡ Some a → assembled load_row (load_operands x) ≡ Some (made (is_gs x) a)
+unfolding assembled
+load_assembled (R r) a e = ap (λ (o : Option (List ℕ)). behind (0x8B ∷ []) (both o (Some []))) e
+load_assembled (M m) a e = memory_assembled m.base m.index m.disp m.gs a e
+
+load_spells : (x : Rm) (a : List ℕ) → address_bytes 0 x ≡ Some a → Spells (made (is_gs x) a) (load x)
 load_spells x a e =
     let f = slot_facts AtFull kind.MovRegRm load_row load_listed in
-    row_spells load_row (load_operands x) (0x8B ∷ a ++ []) (load x) f.listed f.fits (load_assembled x a e) refl
+    row_spells load_row (load_operands x) (made (is_gs x) a) (load x) f.listed f.fits (load_assembled x a e) refl refl
 
 no_longer : (s t : List ℕ) → Upto s t → length s ≤ length t
 no_longer s t h = elim h [ inl p ↦ omega arith | inr p ↦ let q = p.0 in omega arith ]
 
 abbrev Loads : Rm → Type 0
-Loads x = (s : List ℕ) × (least (load x) ≡ Some s) × IsLeast (load x) s × (length s ≤ 7)
+Loads x = (s : List ℕ) × (least (load x) ≡ Some s) × IsLeast (load x) s × (length s ≤ bound (is_gs x))
 
 loaded : (x : Rm) (a : List ℕ) → address_bytes 0 x ≡ Some a → Loads x
 loaded x a e = go (least (load x)) refl (least_of (load x))
   where
-    size : length (0x8B ∷ a ++ []) ≤ 7
-    size = let n = address_named 0 x a (omega arith) e in omega (arith, n.size, address_low a, length-append a [])
+    sized : (gs : Bool) → length (made gs a) ≤ bound gs
+    sized true = let n = address_named 0 x a (omega arith) e in omega (arith, n.size, address_low a, length-append a [])
+    sized false = let n = address_named 0 x a (omega arith) e in omega (arith, n.size, address_low a, length-append a [])
 
     go : (o : Option (List ℕ)) → least (load x) ≡ o → IsLeastOf (load x) o → Loads x
-    go None q h = absurd (h (0x8B ∷ a ++ []) (load_spells x a e))
-    go (Some s) q h = (s, q, h, omega (arith, size, no_longer s (0x8B ∷ a ++ []) (h.least (0x8B ∷ a ++ []) (load_spells x a e))))
+    go None q h = absurd (h (made (is_gs x) a) (load_spells x a e))
+    go (Some s) q h = (s, q, h, omega (arith, sized (is_gs x), no_longer s (made (is_gs x) a) (h.least (made (is_gs x) a) (load_spells x a e))))
 
--- what some bytes jump or call through, MOV loads into EAX, in at most 7 bytes
-pub operand_loads : (s : List ℕ) (operand : Rm) → (Spells s (insn.JumpVia operand) ⊎ Spells s (insn.CallVia operand)) → (load : List ℕ) × (least (insn.Mov D (R Eax) (source_of operand)) ≡ Some load) × IsLeast (insn.Mov D (R Eax) (source_of operand)) load × (length load ≤ 7)
+-- what some bytes jump or call through, MOV loads into EAX, in at most 7 bytes, or 8
+pub operand_loads : (s : List ℕ) (operand : Rm) → (Spells s (insn.JumpVia operand) ⊎ Spells s (insn.CallVia operand)) → (load : List ℕ) × (least (insn.Mov D (R Eax) (source_of operand)) ≡ Some load) × IsLeast (insn.Mov D (R Eax) (source_of operand)) load × (length load ≤ (if is_gs operand then 8 else 7))
 operand_loads s operand h =
     elim h [
       | inl w ↦ let n = named s (insn.JumpVia operand) operand w refl in loaded operand n.0 n.1

@@ -94,7 +94,7 @@ pub record LeastAddress (t : List ℕ) : Type 0 where
   pub made : address_bytes (reg_field t) (rm_of t) ≡ Some bytes
   pub least : Upto bytes (take (address_length t) t)
 
-address_memory : (g : ℕ) (b : Option Reg) (x : Option (Reg × ℕ)) (d : ℕ) → d < 2 ^ 32 → address_bytes g (M (record { base = b; index = x; disp = d })) ≡ memory_bytes g b x d
+address_memory : (g : ℕ) (b : Option Reg) (x : Option (Reg × ℕ)) (d : ℕ) → d < 2 ^ 32 → address_bytes g (M (record { base = b; index = x; disp = d; gs = false })) ≡ memory_bytes g b x d
 address_memory g b x d l = ap (λ (v : Bool). if v then memory_bytes g b x d else None) (lt-ltb d (2 ^ 32) l)
 
 -- from what the bytes name to what is made of it
@@ -102,7 +102,7 @@ made_by : (t : List ℕ) (p len : ℕ) (b : Option Reg) (x : Option (Reg × ℕ)
 made_by t p len b x d s w e l m u =
     record {
       bytes = s;
-      made = ap (address_bytes (reg_field t)) w.rm ∙ ap (λ (n : ℕ). address_bytes (reg_field t) (M (record { base = b; index = x; disp = n }))) e ∙ address_memory (reg_field t) b x d l ∙ m;
+      made = ap (address_bytes (reg_field t)) w.rm ∙ ap (λ (n : ℕ). address_bytes (reg_field t) (M (record { base = b; index = x; disp = n; gs = false }))) e ∙ address_memory (reg_field t) b x d l ∙ m;
       least = subst (λ (n : ℕ). Upto s (take n t)) (sym w.size) u;
     }
 

@@ -10,7 +10,6 @@ use Rattle.x86_insn.specs.declared.insn.Reg.TheVariants.{Eax}
 use Rattle.x86_insn.specs.declared.insn.Rep.{Rep}
 use Rattle.x86_insn.specs.declared.insn.Rep.TheVariants.{Once, F3, F2}
 use Rattle.x86_insn.specs.declared.insn.Rm.{Rm}
-use Rattle.x86_insn.specs.declared.insn.Rm.TheVariants as rm
 use Rattle.x86_insn.specs.declared.insn.Width.{Width}
 use Rattle.x86_insn.specs.declared.insn.Width.TheVariants.{B, W, D}
 use Rattle.x86_insn.specs.declared.row.Lead.{Lead}
@@ -25,21 +24,21 @@ use Rattle.x86_insn.specs.declared.row.Row.{Row}
 use Rattle.x86_insn.specs.declared.row.Marks.{Marks}
 use Rattle.x86_insn.specs.declared.row.Operands.{Operands}
 use Rattle.x86_insn.specs.State.{reg_number}
-use Rattle.x86_insn.specs.Addressing.{byte_at, reg_of, reg_field, names_memory, rm_of}
+use Rattle.x86_insn.specs.Addressing.{byte_at, reg_of, reg_field, names_memory, rm_of, with_gs}
 use Rattle.x86_insn.specs.Meaning.{cond_of, cond_number, meaning}
 use Rattle.x86_insn.specs.Rows.{rows}
-use Rattle.x86_insn.specs.Spelling.{lead_bytes, width_of, has_modrm, takes_digit, takes_operand, takes_repeat, takes_marks, takes_modrm, immediate_length, immediate_of, immediate_place, addressed, from_modrm, form_width, operand_length, operands_of, is_opcode, Spells}
+use Rattle.x86_insn.specs.Spelling.{lead_bytes, width_of, has_modrm, takes_digit, takes_operand, takes_repeat, takes_gs, takes_marks, asks_memory, takes_modrm, immediate_length, immediate_of, immediate_place, addressed, from_modrm, form_width, operand_length, operands_of, is_opcode, Spells}
 use Rattle.x86_insn.specs.Agreeing.{both_true, and_true}
 use Rattle.x86_insn.specs.OperandBytes.{SameOperand, same_operand}
 use Rattle.x86_insn.specs.Laws.{bytes_listed}
 use Rattle.x86_encode.specs.Address.{address_bytes}
-use Rattle.x86_encode.specs.Assembling.{same_width, is_memory, group_bytes, word_bytes, prefix_bytes, immediate_bytes, opcode_byte, field_of, takes, addressed_bytes, both, operand_bytes, front_bytes, behind, assembled}
+use Rattle.x86_encode.specs.Assembling.{same_width, is_memory, group_bytes, word_bytes, segment_bytes, prefix_bytes, immediate_bytes, opcode_byte, field_of, takes, addressed_bytes, both, operand_bytes, front_bytes, behind, assembled}
 use Rattle.x86_encode.specs.Candidates.{operands}
 use Rattle.x86_encode.specs.laws.Leading.{Apart, Sets, sets, prefixes_short}
-use Rattle.x86_encode.specs.laws.Addressed.{reg_back, reg_low, address_named, address_low, no_bytes, bytes_after}
+use Rattle.x86_encode.specs.laws.Addressed.{reg_back, reg_low, gs_again, memory_with, address_named, address_low, no_bytes, bytes_after}
 use Rattle.x86_encode.specs.laws.Immediates.{Holds, immediate_holds, immediate_behind}
-use Rattle.x86_encode.specs.laws.Taken.{width_by, NumberUse, NoNumber, ByRegister, ByCondition, ImmediateUse, Unused, Whole, LowByte, LowHalf, Uses, uses, number_by, immediate_by, taken, taken_means, Limited}
-use Rattle.x86_encode.specs.laws.Tabled.{either_true, fits_field, is_none, fits_modrm, is_never, fits_number, fits_immediate, RowFits}
+use Rattle.x86_encode.specs.laws.Taken.{width_by, OperandUse, NoOperand, Named, AtImmediate, operand_by, operand_taken, NumberUse, NoNumber, ByRegister, ByCondition, ImmediateUse, Unused, Whole, LowByte, LowHalf, Uses, uses, number_by, immediate_by, taken, taken_means, Limited, Agrees}
+use Rattle.x86_encode.specs.laws.Tabled.{either_true, fits_field, is_none, is_named, fits_modrm, is_hint, is_never, fits_number, fits_immediate, RowFits}
 
 -- ---- single columns
 
@@ -54,11 +53,11 @@ width_same D B h = absurd (cc h)
 width_same D W h = absurd (cc h)
 width_same D D h = refl
 
-pub with_modrm : (l : Layout) (reg x lock : Bool) (digit : Option ℕ) → has_modrm l ≡ true → fits_modrm l reg x lock digit ≡ true → (x ≡ true) × (fits_field reg digit ≡ true)
+pub with_modrm : (l : Layout) (reg : Bool) (x : OperandUse) (lock : Bool) (digit : Option ℕ) → has_modrm l ≡ true → fits_modrm l reg x lock digit ≡ true → (is_named x ≡ true) × (fits_field reg digit ≡ true)
 with_modrm NoModrm reg x lock digit e h = absurd (cc e)
-with_modrm Any reg x lock digit e h = both_true x _ h
-with_modrm Memory reg x lock digit e h = both_true x _ h
-with_modrm Register reg x lock digit e h = both_true x _ h
+with_modrm Any reg x lock digit e h = both_true (is_named x) _ h
+with_modrm Memory reg x lock digit e h = both_true (is_named x) _ h
+with_modrm Register reg x lock digit e h = both_true (is_named x) _ h
 
 not_true : (b : Bool) → not b ≡ true → b ≡ false
 not_true true h = absurd (cc h)
@@ -68,18 +67,18 @@ none_is : (digit : Option ℕ) → is_none digit ≡ true → digit ≡ None
 none_is None h = refl
 none_is (Some d) h = absurd (cc h)
 
-pub record Without (reg x lock : Bool) (digit : Option ℕ) : Type 0 where
+pub record Without (reg : Bool) (x : OperandUse) (lock : Bool) (digit : Option ℕ) : Type 0 where
   pub no_reg : reg ≡ false
-  pub no_rm : x ≡ false
+  pub no_rm : is_named x ≡ false
   pub no_lock : lock ≡ false
   pub no_digit : digit ≡ None
 
-pub without_modrm : (l : Layout) (reg x lock : Bool) (digit : Option ℕ) → has_modrm l ≡ false → fits_modrm l reg x lock digit ≡ true → Without reg x lock digit
+pub without_modrm : (l : Layout) (reg : Bool) (x : OperandUse) (lock : Bool) (digit : Option ℕ) → has_modrm l ≡ false → fits_modrm l reg x lock digit ≡ true → Without reg x lock digit
 without_modrm NoModrm reg x lock digit e h =
-    let a = both_true (not reg && not x && not lock) (is_none digit) h in
-    let b = both_true (not reg && not x) (not lock) a.0 in
-    let c = both_true (not reg) (not x) b.0 in
-    record { no_reg = not_true reg c.0; no_rm = not_true x c.1; no_lock = not_true lock b.1; no_digit = none_is digit a.1 }
+    let a = both_true (not reg && not (is_named x) && not lock) (is_none digit) h in
+    let b = both_true (not reg && not (is_named x)) (not lock) a.0 in
+    let c = both_true (not reg) (not (is_named x)) b.0 in
+    record { no_reg = not_true reg c.0; no_rm = not_true (is_named x) c.1; no_lock = not_true lock b.1; no_digit = none_is digit a.1 }
 without_modrm Any reg x lock digit e h = absurd (cc e)
 without_modrm Memory reg x lock digit e h = absurd (cc e)
 without_modrm Register reg x lock digit e h = absurd (cc e)
@@ -138,16 +137,16 @@ record Takes (r : Row) (o : Operands) : Type 0 where
   width : width_of r.form.size o.marks.word ≡ o.width
   marks : takes_marks r.form o.marks ≡ true
   operand : takes_operand r.form.layout (is_memory o.rm) ≡ true
-  locked : (not o.marks.lock || is_memory o.rm) ≡ true
+  asked : (not (asks_memory o.marks) || is_memory o.rm) ≡ true
   opcode : is_opcode r (opcode_byte r o.opcode) ≡ true
 
 takes_parts : (r : Row) (o : Operands) → takes r o ≡ true → Takes r o
 takes_parts r o h =
     let a = both_true _ (is_opcode r (opcode_byte r o.opcode)) h in
-    let b = both_true _ (not o.marks.lock || is_memory o.rm) a.0 in
+    let b = both_true _ (not (asks_memory o.marks) || is_memory o.rm) a.0 in
     let c = both_true _ (takes_operand r.form.layout (is_memory o.rm)) b.0 in
     let d = both_true (same_width (width_of r.form.size o.marks.word) o.width) _ c.0 in
-    record { width = width_same _ _ d.0; marks = d.1; operand = c.1; locked = b.1; opcode = a.1 }
+    record { width = width_same _ _ d.0; marks = d.1; operand = c.1; asked = b.1; opcode = a.1 }
 
 -- what the operand bytes come to
 record Reads (r : Row) (o : Operands) (u : List ℕ) : Type 0 where
@@ -167,26 +166,39 @@ immediate_short Iz W = omega arith
 immediate_short Iz B = omega arith
 immediate_short Iz D = omega arith
 
-or_true : (b : Bool) → (b || true) ≡ true
+pub or_true : (b : Bool) → (b || true) ≡ true
 or_true true = refl
 or_true false = refl
 
-module _ (r : Row) (o : Operands) (f : RowFits r) (t : Takes r o) where
+-- only the operand that ModRM names comes from there
+pub named_operand : (k : OperandUse) (g : Bool) (x : Rm) (n : ℕ) → is_named k ≡ true → operand_by k g x n ≡ x
+named_operand NoOperand g x n h = absurd (cc h)
+named_operand Named g x n h = refl
+named_operand AtImmediate g x n h = absurd (cc h)
+
+other_operand : (k : OperandUse) (g : Bool) (x y : Rm) (n : ℕ) → is_named k ≡ false → operand_by k g x n ≡ operand_by k g y n
+other_operand NoOperand g x y n h = refl
+other_operand Named g x y n h = absurd (cc h)
+other_operand AtImmediate g x y n h = refl
+
+module _ (r : Row) (o : Operands) (f : RowFits r) (t : Takes r o) (agrees : Agrees o) where
   abbrev u : Uses
   u = uses r.form.kind
 
-  reads : (a b v : List ℕ) → a ++ b ≡ v → length a ≤ 6 → AreBytes a → Holds r.form.immediate o.width o.immediate b → takes_modrm r.form o.marks v ≡ true → immediate_place (has_modrm r.form.layout) v ≡ length a → (if u.reg then reg_of (reg_field (from_modrm r.form v)) else Eax) ≡ (if u.reg then o.reg else Eax) → (if u.rm then rm_of (from_modrm r.form v) else rm.R Eax) ≡ (if u.rm then o.rm else rm.R Eax) → Reads r o v
+  reads : (a b v : List ℕ) → a ++ b ≡ v → length a ≤ 6 → AreBytes a → Holds r.form.immediate o.width o.immediate b → takes_modrm r.form o.marks v ≡ true → immediate_place (has_modrm r.form.layout) v ≡ length a → (if u.reg then reg_of (reg_field (from_modrm r.form v)) else Eax) ≡ (if u.reg then o.reg else Eax) → ((n : ℕ) → operand_by u.operand o.marks.gs (with_gs o.marks.gs (rm_of (from_modrm r.form v))) n ≡ operand_by u.operand o.marks.gs o.rm n) → Reads r o v
   reads a b v e l bytes h modrm place reg x =
       let size : immediate_length r.form.immediate (form_width r.form o.marks) ≡ immediate_length r.form.immediate o.width = ap (immediate_length r.form.immediate) t.width in
       let joined : length v ≡ length a + length b = sym (ap length e) ∙ length-append a b in
       let imm : immediate_of r.form.immediate (form_width r.form o.marks) v (immediate_place (has_modrm r.form.layout) v) ≡ o.immediate =
       ap₂ (λ (w : Width) (k : ℕ). immediate_of r.form.immediate w v k) t.width place ∙ ap (λ (s : List ℕ). immediate_of r.form.immediate o.width s (length a)) (sym e) ∙ immediate_behind r.form.immediate o.width a b ∙ h.holds in
+      let operand : operand_taken u (operands_of r.form o.marks (opcode_byte r o.opcode) v) ≡ operand_taken u o =
+      x (immediate_of r.form.immediate (form_width r.form o.marks) v (immediate_place (has_modrm r.form.layout) v)) ∙ ap (operand_by u.operand o.marks.gs o.rm) imm in
       record {
         modrm = modrm;
         size = omega (arith, joined, h.size, place, size);
         short = omega (arith, joined, h.size, immediate_short r.form.immediate o.width);
         bytes = subst AreBytes e (bytes_joined a b bytes h.bytes);
-        same = operands_same _ _ _ _ _ _ _ _ _ _ _ _ _ _ (ap (width_by u.width) t.width) refl refl (number_kept u.number r.span r.opcode o.opcode f.number) reg x (ap (immediate_by u.immediate) imm);
+        same = operands_same _ _ _ _ _ _ _ _ _ _ _ _ _ _ (ap₂ (width_by u.width) operand t.width) refl refl (number_kept u.number r.span r.opcode o.opcode f.number) reg operand (ap (immediate_by u.immediate) imm);
       }
 
   -- ModRM stands
@@ -195,29 +207,29 @@ module _ (r : Row) (o : Operands) (f : RowFits r) (t : Takes r o) where
       let n = address_named (field_of r.form.digit o.reg) o.rm a (field_low r.form.digit o.reg) ea in
       let w : SameOperand a (a ++ b) = same_operand a (a ++ b) (λ k l. byte_front a b k (omega (arith, n.size))) in
       let h = immediate_holds r.form.immediate o.width o.immediate b eb in
-      let g = with_modrm r.form.layout u.reg u.rm r.form.lock r.form.digit e f.modrm in
+      let g = with_modrm r.form.layout u.reg u.operand r.form.lock r.form.digit e f.modrm in
       let from : from_modrm r.form (a ++ b) ≡ a ++ b = ap (λ (v : Bool). addressed v (a ++ b)) e in
       let field : reg_field (from_modrm r.form (a ++ b)) ≡ field_of r.form.digit o.reg = ap reg_field from ∙ sym w.reg ∙ n.reg in
-      let names : names_memory (from_modrm r.form (a ++ b)) ≡ is_memory o.rm = ap names_memory from ∙ sym w.names ∙ n.names in
-      let x : rm_of (from_modrm r.form (a ++ b)) ≡ o.rm = ap rm_of from ∙ sym w.rm ∙ n.rm in
+      let names : names_memory (from_modrm r.form (a ++ b)) ≡ is_memory o.rm = ap names_memory from ∙ sym w.names ∙ n.names ∙ memory_with false o.rm in
+      let x : with_gs o.marks.gs (rm_of (from_modrm r.form (a ++ b))) ≡ o.rm = ap (with_gs o.marks.gs) (ap rm_of from ∙ sym w.rm ∙ n.rm) ∙ gs_again o.marks.gs o.rm agrees in
       let place : immediate_place (has_modrm r.form.layout) (a ++ b) ≡ length a = ap (λ (v : Bool). immediate_place v (a ++ b)) e ∙ sym w.length ∙ n.size in
       let modrm : takes_modrm r.form o.marks (a ++ b) ≡ true =
-      and_true _ _ (and_true _ _ (ap (takes_digit r.form.digit) field ∙ digit_takes r.form.digit u.reg o.reg g.1) (ap (takes_operand r.form.layout) names ∙ t.operand)) (ap (λ (v : Bool). not o.marks.lock || v) names ∙ t.locked) in
+      and_true _ _ (and_true _ _ (ap (takes_digit r.form.digit) field ∙ digit_takes r.form.digit u.reg o.reg g.1) (ap (takes_operand r.form.layout) names ∙ t.operand)) (ap (λ (v : Bool). not (asks_memory o.marks) || v) names ∙ t.asked) in
       let reg : (if u.reg then reg_of (reg_field (from_modrm r.form (a ++ b))) else Eax) ≡ (if u.reg then o.reg else Eax) =
       ap (λ (k : ℕ). if u.reg then reg_of k else Eax) field ∙ reg_read r.form.digit u.reg o.reg g.1 in
-      reads a b (a ++ b) refl (omega (arith, n.size, address_low a)) n.bytes h modrm place reg (ap (λ (y : Rm). if u.rm then y else rm.R Eax) x)
+      reads a b (a ++ b) refl (omega (arith, n.size, address_low a)) n.bytes h modrm place reg (λ k. ap (λ (y : Rm). operand_by u.operand o.marks.gs y k) x)
 
   -- no ModRM stands
   reads_bare : (b : List ℕ) → has_modrm r.form.layout ≡ false → immediate_bytes r.form.immediate o.width o.immediate ≡ Some b → Reads r o b
   reads_bare b e eb =
       let h = immediate_holds r.form.immediate o.width o.immediate b eb in
-      let g = without_modrm r.form.layout u.reg u.rm r.form.lock r.form.digit e f.modrm in
+      let g = without_modrm r.form.layout u.reg u.operand r.form.lock r.form.digit e f.modrm in
       let from : from_modrm r.form b ≡ [] = ap (λ (v : Bool). addressed v b) e in
       let place : immediate_place (has_modrm r.form.layout) b ≡ 0 = ap (λ (v : Bool). immediate_place v b) e in
       let digit : takes_digit r.form.digit (reg_field (from_modrm r.form b)) ≡ true = ap (λ (d : Option ℕ). takes_digit d (reg_field (from_modrm r.form b))) g.no_digit in
-      let locked : (not o.marks.lock || names_memory (from_modrm r.form b)) ≡ true = ap (λ (s : List ℕ). not o.marks.lock || names_memory s) from ∙ or_true (not o.marks.lock) in
-      let modrm : takes_modrm r.form o.marks b ≡ true = and_true _ _ (and_true _ _ digit (any_operand r.form.layout (names_memory (from_modrm r.form b)) e)) locked in
-      reads [] b b refl (omega arith) no_bytes h modrm place (ap (λ (v : Bool). if v then reg_of (reg_field (from_modrm r.form b)) else Eax) g.no_reg ∙ sym (ap (λ (v : Bool). if v then o.reg else Eax) g.no_reg)) (ap (λ (v : Bool). if v then rm_of (from_modrm r.form b) else rm.R Eax) g.no_rm ∙ sym (ap (λ (v : Bool). if v then o.rm else rm.R Eax) g.no_rm))
+      let asked : (not (asks_memory o.marks) || names_memory (from_modrm r.form b)) ≡ true = ap (λ (s : List ℕ). not (asks_memory o.marks) || names_memory s) from ∙ or_true (not (asks_memory o.marks)) in
+      let modrm : takes_modrm r.form o.marks b ≡ true = and_true _ _ (and_true _ _ digit (any_operand r.form.layout (names_memory (from_modrm r.form b)) e)) asked in
+      reads [] b b refl (omega arith) no_bytes h modrm place (ap (λ (v : Bool). if v then reg_of (reg_field (from_modrm r.form b)) else Eax) g.no_reg ∙ sym (ap (λ (v : Bool). if v then o.reg else Eax) g.no_reg)) (λ k. other_operand u.operand o.marks.gs (with_gs o.marks.gs (rm_of (from_modrm r.form b))) o.rm k g.no_rm)
 
   both_read : (a b : Option (List ℕ)) (v : List ℕ) → both a b ≡ Some v → (x : List ℕ) × (y : List ℕ) × (a ≡ Some x) × (b ≡ Some y) × (v ≡ x ++ y)
   both_read None b v h = absurd (cc h)
@@ -269,22 +281,37 @@ lead_are_bytes Interrupt = (omega arith, bytes_listed (lead_bytes Interrupt) ref
 lead_are_bytes Hint = (omega arith, bytes_listed (lead_bytes Hint) refl)
 
 prefixes_are_bytes : (m : Marks) → AreBytes (prefix_bytes m)
-prefixes_are_bytes m = go m.word m.lock m.rep
+prefixes_are_bytes m =
+    bytes_joined (segment_bytes m.gs ++ word_bytes m.word) (group_bytes m.lock m.rep) (bytes_joined (segment_bytes m.gs) (word_bytes m.word) (segments m.gs) (words m.word)) (groups m.lock m.rep)
   where
-    go : (word lock : Bool) (rep : Rep) → AreBytes (word_bytes word ++ group_bytes lock rep)
-    go true true rep = bytes_listed (word_bytes true ++ group_bytes true rep) refl
-    go true false Once = bytes_listed (word_bytes true ++ group_bytes false Once) refl
-    go true false F2 = bytes_listed (word_bytes true ++ group_bytes false F2) refl
-    go true false F3 = bytes_listed (word_bytes true ++ group_bytes false F3) refl
-    go false true rep = bytes_listed (word_bytes false ++ group_bytes true rep) refl
-    go false false Once = bytes_listed (word_bytes false ++ group_bytes false Once) refl
-    go false false F2 = bytes_listed (word_bytes false ++ group_bytes false F2) refl
-    go false false F3 = bytes_listed (word_bytes false ++ group_bytes false F3) refl
+    segments : (gs : Bool) → AreBytes (segment_bytes gs)
+    segments true = bytes_listed (segment_bytes true) refl
+    segments false = no_bytes
+
+    words : (word : Bool) → AreBytes (word_bytes word)
+    words true = bytes_listed (word_bytes true) refl
+    words false = no_bytes
+
+    groups : (lock : Bool) (rep : Rep) → AreBytes (group_bytes lock rep)
+    groups true rep = bytes_listed (group_bytes true rep) refl
+    groups false Once = no_bytes
+    groups false F2 = bytes_listed (group_bytes false F2) refl
+    groups false F3 = bytes_listed (group_bytes false F3) refl
+
+-- 65 stands before no lead of two bytes
+front_short : (l : Lead) (takes gs : Bool) → (not takes || not (is_hint l)) ≡ true → (not gs || takes) ≡ true → length (segment_bytes gs) + length (lead_bytes l) ≤ 2
+front_short l takes false h k = omega (arith, (lead_are_bytes l).0)
+front_short Bare takes true h k = omega arith
+front_short Escape takes true h k = omega arith
+front_short Interrupt takes true h k = omega arith
+front_short Hint true true h k = absurd (cc h)
+front_short Hint false true h k = absurd (cc k)
 
 -- the row of a lock doesn't take F2 and F3
 marks_apart : (r : Row) (m : Marks) → (not r.form.lock || is_never r.form.repeat) ≡ true → takes_marks r.form m ≡ true → Apart m
 marks_apart r m h t =
-    let a = both_true _ (not m.lock || r.form.lock) t in
+    let g = both_true _ (not m.gs || takes_gs r.form) t in
+    let a = both_true _ (not m.lock || r.form.lock) g.0 in
     let b = both_true _ (takes_repeat r.form.repeat m.rep) a.0 in
     go m.lock r.form.lock r.form.repeat m.rep h b.1 a.1
   where
@@ -302,15 +329,16 @@ marks_apart r m h t =
 in_span : (r : Row) (b : ℕ) → is_opcode r b ≡ true → r.opcode + r.span ≤ 256 → b < 256
 in_span r b h l = let w = both_true (nat_le r.opcode b) _ h in omega (arith, ltb-true b (r.opcode + r.span) w.1)
 
-pub row_spells : (r : Row) (o : Operands) (s : List ℕ) (i : Insn) → Contains rows r → RowFits r → assembled r o ≡ Some s → meaning r.form.kind o ≡ i → Spells s i
+pub row_spells : (r : Row) (o : Operands) (s : List ℕ) (i : Insn) → Contains rows r → RowFits r → assembled r o ≡ Some s → Agrees o → meaning r.form.kind o ≡ i → Spells s i
 unfolding assembled
-row_spells r o s i listed f e means = go (takes r o) refl (operand_bytes r o) refl e
+row_spells r o s i listed f e agrees means = go (takes r o) refl (operand_bytes r o) refl e
   where
     spelt : (v : List ℕ) → Takes r o → Reads r o v → Spells (front_bytes r o ++ v) i
     spelt v t w =
         let p : Sets o.marks = sets o.marks (marks_apart r o.marks f.apart t.marks) in
         let c = opcode_byte r o.opcode in
         let lead = lead_are_bytes r.lead in
+        let short = front_short r.lead (takes_gs r.form) o.marks.gs f.lead (both_true _ (not o.marks.gs || takes_gs r.form) t.marks).1 in
         let parts : front_bytes r o ++ v ≡ prefix_bytes o.marks ++ lead_bytes r.lead ++ c ∷ v = append_assoc (prefix_bytes o.marks ++ lead_bytes r.lead) (c ∷ []) v in
         let low : c < 256 = in_span r c t.opcode f.opcode in
         let size : length (front_bytes r o ++ v) ≡ length (prefix_bytes o.marks) + length (lead_bytes r.lead) + 1 + length v = omega (arith, length-append (front_bytes r o) v, length-append (prefix_bytes o.marks ++ lead_bytes r.lead) (c ∷ []), length-append (prefix_bytes o.marks) (lead_bytes r.lead)) in
@@ -321,7 +349,7 @@ row_spells r o s i listed f e means = go (takes r o) refl (operand_bytes r o) re
           opcode = c;
           operands = v;
           parts = parts;
-          limit = omega (arith, size, prefixes_short o.marks, lead.0, w.short);
+          limit = omega (arith, size, prefixes_short o.marks, short, w.short);
           bytes = bytes_joined (front_bytes r o) v (bytes_joined (prefix_bytes o.marks ++ lead_bytes r.lead) (c ∷ []) (bytes_joined (prefix_bytes o.marks) (lead_bytes r.lead) (prefixes_are_bytes o.marks) lead.1) (bytes_after c [] low no_bytes)) w.bytes;
           are_prefixes = p.are_prefixes;
           together = p.together;
@@ -339,4 +367,4 @@ row_spells r o s i listed f e means = go (takes r o) refl (operand_bytes r o) re
     go true h (Some v) g e =
         let t = takes_parts r o h in
         let same : front_bytes r o ++ v ≡ s = cc e in
-        subst (λ (q : List ℕ). Spells q i) same (spelt v t (operands_read r o f t v g))
+        subst (λ (q : List ℕ). Spells q i) same (spelt v t (operands_read r o f t agrees v g))

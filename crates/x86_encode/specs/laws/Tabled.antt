@@ -22,12 +22,13 @@ use Rattle.x86_insn.specs.declared.row.Size.TheVariants.{Byte, Vary, Dword}
 use Rattle.x86_insn.specs.declared.row.Repeat.{Repeat}
 use Rattle.x86_insn.specs.declared.row.Repeat.TheVariants.{Never, Idle, Needed, Rep, Repe}
 use Rattle.x86_insn.specs.declared.row.Kind.{Kind}
-use Rattle.x86_insn.specs.declared.row.Kind.TheVariants.{AluRmReg, AluRegRm, AluAccImm, AluRmImm, TestRmReg, TestAccImm, TestRmImm, MovRmReg, MovRegRm, MovRegImm, MovRmImm, MovAccAt, MovAtAcc, XchgRmReg, XchgRegAcc, Lea, Movx, Bswap, PushReg, PushImm, PushRm, PopReg, PopRm, BumpReg, BumpRm, Unary, Mul, Div, ImulRegRm, ImulRegRmImm, ShiftImm, ShiftOne, ShiftCl, DoubleImm, DoubleCl, BitReg, BitImm, Scan, Cmpxchg, Xadd, Set, Cmov, Cbw, Cwd, Str, Flag, Pushad, Popad, Pushfd, Popfd, Leave, Xlat, Lahf, Sahf, Nop, Pause, Endbr, Jump, Branch, Loop, Call, JumpVia, CallVia, Ret, Int80, Int3, Hlt, Ud2}
+use Rattle.x86_insn.specs.declared.row.Kind.TheVariants.{AluRmReg, AluRegRm, AluAccImm, AluRmImm, TestRmReg, TestAccImm, TestRmImm, MovRmReg, MovRegRm, MovRegImm, MovRmImm, MovAccAt, MovAtAcc, XchgRmReg, XchgRegAcc, Lea, Movx, Bswap, PushReg, PushImm, PushRm, PopReg, PopRm, BumpReg, BumpRm, Unary, Mul, Div, ImulRegRm, ImulRegRmImm, ShiftImm, ShiftOne, ShiftCl, DoubleImm, DoubleCl, BitReg, BitImm, Scan, Cmpxchg, Xadd, Set, Cmov, Cbw, Cwd, Str, Flag, Pushad, Popad, Pushfd, Popfd, Leave, Xlat, Lahf, Sahf, Nop, Pause, Endbr, ToGs, FromGs, Cpuid, Jump, Branch, Loop, Call, JumpVia, CallVia, Ret, Int80, Int3, Hlt, Ud2}
 use Rattle.x86_insn.specs.declared.row.Row.{Row}
 use Rattle.x86_insn.specs.Rows.{rows}
+use Rattle.x86_insn.specs.Spelling.{takes_gs}
 use Rattle.x86_insn.specs.Agreeing.{both_true}
 use Rattle.x86_encode.specs.Slots.{byte_row, full_row, short_row}
-use Rattle.x86_encode.specs.laws.Taken.{WidthUse, Given, Long, Short, RepeatUse, OnceOnly, Kept, Stands, NumberUse, NoNumber, ByRegister, ByCondition, ImmediateUse, Unused, Whole, LowByte, LowHalf, Uses, uses}
+use Rattle.x86_encode.specs.laws.Taken.{WidthUse, Given, Long, Short, Selector, OperandUse, NoOperand, Named, AtImmediate, RepeatUse, OnceOnly, Kept, Stands, NumberUse, NoNumber, ByRegister, ByCondition, ImmediateUse, Unused, Whole, LowByte, LowHalf, Uses, uses}
 
 -- ---- each row of the table is one of its kind's
 
@@ -100,6 +101,10 @@ fits_width Long Dword i = true
 fits_width Short Byte i = true
 fits_width Short Vary i = false
 fits_width Short Dword i = false
+fits_width Selector Byte i = false
+fits_width Selector Vary Absent = true
+fits_width Selector Vary i = false
+fits_width Selector Dword i = false
 
 abbrev pub fits_repeat : RepeatUse → Repeat → Bool
 fits_repeat OnceOnly Never = true
@@ -129,11 +134,16 @@ abbrev pub is_none : Option ℕ → Bool
 is_none None = true
 is_none (Some d) = false
 
-abbrev pub fits_modrm : Layout → Bool → Bool → Bool → Option ℕ → Bool
-fits_modrm NoModrm reg x lock digit = not reg && not x && not lock && is_none digit
-fits_modrm Any reg x lock digit = x && fits_field reg digit
-fits_modrm Memory reg x lock digit = x && fits_field reg digit
-fits_modrm Register reg x lock digit = x && fits_field reg digit
+abbrev pub is_named : OperandUse → Bool
+is_named NoOperand = false
+is_named Named = true
+is_named AtImmediate = false
+
+abbrev pub fits_modrm : Layout → Bool → OperandUse → Bool → Option ℕ → Bool
+fits_modrm NoModrm reg x lock digit = not reg && not (is_named x) && not lock && is_none digit
+fits_modrm Any reg x lock digit = is_named x && fits_field reg digit
+fits_modrm Memory reg x lock digit = is_named x && fits_field reg digit
+fits_modrm Register reg x lock digit = is_named x && fits_field reg digit
 
 abbrev pub fits_number : NumberUse → ℕ → ℕ → Bool
 fits_number NoNumber span opcode = nat_eq span 1
@@ -160,17 +170,25 @@ only_memory Any = false
 only_memory Memory = true
 only_memory Register = false
 
+-- the lead of two bytes; no row that takes 65 has it, so that what is made has 15 bytes at most
+abbrev pub is_hint : Lead → Bool
+is_hint Bare = false
+is_hint Escape = false
+is_hint Interrupt = false
+is_hint Hint = true
+
 abbrev fits : Uses → Row → Bool
 fits u r =
     fits_width u.width r.form.size r.form.immediate
     && (u.lock || not r.form.lock)
     && fits_repeat u.rep r.form.repeat
     && (not r.form.lock || is_never r.form.repeat)
-    && fits_modrm r.form.layout u.reg u.rm r.form.lock r.form.digit
+    && fits_modrm r.form.layout u.reg u.operand r.form.lock r.form.digit
     && fits_number u.number r.span r.opcode
     && nat_le (r.opcode + r.span) 256
     && fits_immediate u.immediate r.form.immediate
     && (not (is_lea r.form.kind) || only_memory r.form.layout)
+    && (not (takes_gs r.form) || not (is_hint r.lead))
 
 abbrev fits_or_long : Row → Bool
 fits_or_long r = fits (uses r.form.kind) r || is_long_nop r
@@ -197,23 +215,25 @@ pub record RowFits (r : Row) : Type 0 where
   pub lock : ((uses r.form.kind).lock || not r.form.lock) ≡ true
   pub repeat : fits_repeat (uses r.form.kind).rep r.form.repeat ≡ true
   pub apart : (not r.form.lock || is_never r.form.repeat) ≡ true
-  pub modrm : fits_modrm r.form.layout (uses r.form.kind).reg (uses r.form.kind).rm r.form.lock r.form.digit ≡ true
+  pub modrm : fits_modrm r.form.layout (uses r.form.kind).reg (uses r.form.kind).operand r.form.lock r.form.digit ≡ true
   pub number : fits_number (uses r.form.kind).number r.span r.opcode ≡ true
   pub opcode : r.opcode + r.span ≤ 256
   pub immediate : fits_immediate (uses r.form.kind).immediate r.form.immediate ≡ true
   pub lea : (not (is_lea r.form.kind) || only_memory r.form.layout) ≡ true
+  pub lead : (not (takes_gs r.form) || not (is_hint r.lead)) ≡ true
 
 row_fits : (r : Row) → fits (uses r.form.kind) r ≡ true → RowFits r
 row_fits r h =
-    let z = both_true _ (not (is_lea r.form.kind) || only_memory r.form.layout) h in
+    let y = both_true _ (not (takes_gs r.form) || not (is_hint r.lead)) h in
+    let z = both_true _ (not (is_lea r.form.kind) || only_memory r.form.layout) y.0 in
     let a = both_true _ (fits_immediate (uses r.form.kind).immediate r.form.immediate) z.0 in
     let b = both_true _ (nat_le (r.opcode + r.span) 256) a.0 in
     let c = both_true _ (fits_number (uses r.form.kind).number r.span r.opcode) b.0 in
-    let d = both_true _ (fits_modrm r.form.layout (uses r.form.kind).reg (uses r.form.kind).rm r.form.lock r.form.digit) c.0 in
+    let d = both_true _ (fits_modrm r.form.layout (uses r.form.kind).reg (uses r.form.kind).operand r.form.lock r.form.digit) c.0 in
     let e = both_true _ (not r.form.lock || is_never r.form.repeat) d.0 in
     let f = both_true _ (fits_repeat (uses r.form.kind).rep r.form.repeat) e.0 in
     let g = both_true (fits_width (uses r.form.kind).width r.form.size r.form.immediate) _ f.0 in
-    record { width = g.0; lock = g.1; repeat = f.1; apart = e.1; modrm = d.1; number = c.1; opcode = leb-true _ _ b.1; immediate = a.1; lea = z.1 }
+    record { width = g.0; lock = g.1; repeat = f.1; apart = e.1; modrm = d.1; number = c.1; opcode = leb-true _ _ b.1; immediate = a.1; lea = z.1; lead = y.1 }
 
 pub fitted : (r : Row) → Contains rows r → RowFits r ⊎ IsLongNop r
 fitted r h =
@@ -390,6 +410,9 @@ kind_listed Sahf = (tt, (refl, refl, refl, refl), tt)
 kind_listed Nop = (tt, (refl, refl, refl, refl), tt)
 kind_listed Pause = (tt, (refl, refl, refl, refl), tt)
 kind_listed Endbr = (tt, (refl, refl, refl, refl), tt)
+kind_listed ToGs = (tt, (refl, refl, refl, refl), tt)
+kind_listed FromGs = (tt, (refl, refl, refl, refl), tt)
+kind_listed Cpuid = (tt, (refl, refl, refl, refl), tt)
 kind_listed Jump = (tt, (refl, refl, refl, refl), (refl, refl, refl, refl))
 kind_listed Branch = (tt, (refl, refl, refl, refl), (refl, refl, refl, refl))
 kind_listed (Loop Ne) = (tt, tt, (refl, refl, refl, refl))

@@ -17,24 +17,31 @@ use Rattle.x86_insn.specs.declared.insn.Count.TheVariants as count
 use Rattle.x86_insn.specs.declared.insn.Cond.{Cond}
 use Rattle.x86_insn.specs.declared.insn.Cond.TheVariants as cond
 use Rattle.x86_insn.specs.declared.insn.Width.{Width}
-use Rattle.x86_insn.specs.declared.insn.Width.TheVariants.{B, D}
+use Rattle.x86_insn.specs.declared.insn.Width.TheVariants.{B, W, D}
 use Rattle.x86_insn.specs.declared.row.Kind.{Kind}
 use Rattle.x86_insn.specs.declared.row.Kind.TheVariants as kind
 use Rattle.x86_insn.specs.declared.row.Operands.{Operands}
 use Rattle.x86_insn.specs.State.{reg_number}
 use Rattle.x86_insn.specs.Addressing.{reg_of}
-use Rattle.x86_insn.specs.Meaning.{cond_of, cond_number, source_of, memory_in, at_address, meaning}
+use Rattle.x86_insn.specs.Meaning.{cond_of, cond_number, source_of, memory_in, at_address, selector_width, meaning}
 use Rattle.x86_encode.specs.declared.candidates.Candidate.{Candidate}
 use Rattle.x86_encode.specs.Assembling.{is_memory}
-use Rattle.x86_encode.specs.Candidates.{operands, if_unlocked, if_accumulator, if_absolute, of_rm, of_number, general, special}
+use Rattle.x86_encode.specs.Candidates.{operands, if_unlocked, if_accumulator, if_absolute, is_gs, of_rm, of_number, of_address, general, special}
 
 -- ---- what a kind takes
 
--- the width: any, 32 bits, or 8 bits
+-- the width: any, 32 bits, 8 bits, or a selector's, which is any of a register and has no width of its own in memory
 pub data WidthUse : Type 0 where
   Given : WidthUse
   Long : WidthUse
   Short : WidthUse
+  Selector : WidthUse
+
+-- the operand that may be memory: none, the one that ModRM names, or memory at the immediate
+pub data OperandUse : Type 0 where
+  NoOperand : OperandUse
+  Named : OperandUse
+  AtImmediate : OperandUse
 
 -- a repeat prefix: none, the one that stands, or F3
 pub data RepeatUse : Type 0 where
@@ -59,89 +66,94 @@ pub record Uses : Type 0 where
   pub width : WidthUse
   pub lock : Bool
   pub reg : Bool
-  pub rm : Bool
+  pub operand : OperandUse
   pub rep : RepeatUse
   pub number : NumberUse
   pub immediate : ImmediateUse
 
-abbrev use_of : WidthUse → Bool → Bool → Bool → RepeatUse → NumberUse → ImmediateUse → Uses
-use_of width lock reg x rep number immediate =
-    record { width = width; lock = lock; reg = reg; rm = x; rep = rep; number = number; immediate = immediate }
+abbrev use_of : WidthUse → Bool → Bool → OperandUse → RepeatUse → NumberUse → ImmediateUse → Uses
+use_of width lock reg operand rep number immediate =
+    record { width = width; lock = lock; reg = reg; operand = operand; rep = rep; number = number; immediate = immediate }
 
 abbrev pub uses : Kind → Uses
-uses (kind.AluRmReg op) = use_of Given true true true OnceOnly NoNumber Unused
-uses (kind.AluRegRm op) = use_of Given false true true OnceOnly NoNumber Unused
-uses (kind.AluAccImm op) = use_of Given false false false OnceOnly NoNumber Whole
-uses (kind.AluRmImm op) = use_of Given true false true OnceOnly NoNumber Whole
-uses kind.TestRmReg = use_of Given false true true OnceOnly NoNumber Unused
-uses kind.TestAccImm = use_of Given false false false OnceOnly NoNumber Whole
-uses kind.TestRmImm = use_of Given false false true OnceOnly NoNumber Whole
-uses kind.MovRmReg = use_of Given false true true OnceOnly NoNumber Unused
-uses kind.MovRegRm = use_of Given false true true OnceOnly NoNumber Unused
-uses kind.MovRegImm = use_of Given false false false OnceOnly ByRegister Whole
-uses kind.MovRmImm = use_of Given false false true OnceOnly NoNumber Whole
-uses kind.MovAccAt = use_of Given false false false OnceOnly NoNumber Whole
-uses kind.MovAtAcc = use_of Given false false false OnceOnly NoNumber Whole
-uses kind.XchgRmReg = use_of Given true true true OnceOnly NoNumber Unused
-uses kind.XchgRegAcc = use_of Given false false false OnceOnly ByRegister Unused
-uses kind.Lea = use_of Given false true true OnceOnly NoNumber Unused
-uses (kind.Movx signed from) = use_of Given false true true OnceOnly NoNumber Unused
-uses kind.Bswap = use_of Long false false false OnceOnly ByRegister Unused
-uses kind.PushReg = use_of Long false false false OnceOnly ByRegister Unused
-uses kind.PushImm = use_of Long false false false OnceOnly NoNumber Whole
-uses kind.PushRm = use_of Long false false true OnceOnly NoNumber Unused
-uses kind.PopReg = use_of Long false false false OnceOnly ByRegister Unused
-uses kind.PopRm = use_of Long false false true OnceOnly NoNumber Unused
-uses (kind.BumpReg up) = use_of Given false false false OnceOnly ByRegister Unused
-uses (kind.BumpRm up) = use_of Given true false true OnceOnly NoNumber Unused
-uses (kind.Unary op) = use_of Given true false true OnceOnly NoNumber Unused
-uses (kind.Mul signed) = use_of Given false false true OnceOnly NoNumber Unused
-uses (kind.Div signed) = use_of Given false false true OnceOnly NoNumber Unused
-uses kind.ImulRegRm = use_of Given false true true OnceOnly NoNumber Unused
-uses kind.ImulRegRmImm = use_of Given false true true OnceOnly NoNumber Whole
-uses (kind.ShiftImm op) = use_of Given false false true OnceOnly NoNumber LowByte
-uses (kind.ShiftOne op) = use_of Given false false true OnceOnly NoNumber Unused
-uses (kind.ShiftCl op) = use_of Given false false true OnceOnly NoNumber Unused
-uses (kind.DoubleImm left) = use_of Long false true true OnceOnly NoNumber LowByte
-uses (kind.DoubleCl left) = use_of Long false true true OnceOnly NoNumber Unused
-uses (kind.BitReg op) = use_of Given true true true OnceOnly NoNumber Unused
-uses (kind.BitImm op) = use_of Given true false true OnceOnly NoNumber Whole
-uses (kind.Scan up) = use_of Given false true true OnceOnly NoNumber Unused
-uses kind.Cmpxchg = use_of Given true true true OnceOnly NoNumber Unused
-uses kind.Xadd = use_of Given true true true OnceOnly NoNumber Unused
-uses kind.Set = use_of Short false false true OnceOnly ByCondition Unused
-uses kind.Cmov = use_of Given false true true OnceOnly ByCondition Unused
-uses kind.Cbw = use_of Given false false false OnceOnly NoNumber Unused
-uses kind.Cwd = use_of Given false false false OnceOnly NoNumber Unused
-uses (kind.Str op) = use_of Given false false false Kept NoNumber Unused
-uses (kind.Flag op) = use_of Long false false false OnceOnly NoNumber Unused
-uses kind.Pushad = use_of Long false false false OnceOnly NoNumber Unused
-uses kind.Popad = use_of Long false false false OnceOnly NoNumber Unused
-uses kind.Pushfd = use_of Long false false false OnceOnly NoNumber Unused
-uses kind.Popfd = use_of Long false false false OnceOnly NoNumber Unused
-uses kind.Leave = use_of Long false false false OnceOnly NoNumber Unused
-uses kind.Xlat = use_of Long false false false OnceOnly NoNumber Unused
-uses kind.Lahf = use_of Long false false false OnceOnly NoNumber Unused
-uses kind.Sahf = use_of Long false false false OnceOnly NoNumber Unused
-uses kind.Nop = use_of Long false false false OnceOnly NoNumber Unused
-uses kind.Pause = use_of Long false false false Stands NoNumber Unused
-uses kind.Endbr = use_of Long false false false Stands NoNumber Unused
-uses kind.Jump = use_of Long false false false OnceOnly NoNumber Whole
-uses kind.Branch = use_of Long false false false OnceOnly ByCondition Whole
-uses (kind.Loop which) = use_of Long false false false OnceOnly NoNumber Whole
-uses kind.Call = use_of Long false false false OnceOnly NoNumber Whole
-uses kind.JumpVia = use_of Long false false true OnceOnly NoNumber Unused
-uses kind.CallVia = use_of Long false false true OnceOnly NoNumber Unused
-uses kind.Ret = use_of Long false false false OnceOnly NoNumber LowHalf
-uses kind.Int80 = use_of Long false false false OnceOnly NoNumber Unused
-uses kind.Int3 = use_of Long false false false OnceOnly NoNumber Unused
-uses kind.Hlt = use_of Long false false false OnceOnly NoNumber Unused
-uses kind.Ud2 = use_of Long false false false OnceOnly NoNumber Unused
+uses (kind.AluRmReg op) = use_of Given true true Named OnceOnly NoNumber Unused
+uses (kind.AluRegRm op) = use_of Given false true Named OnceOnly NoNumber Unused
+uses (kind.AluAccImm op) = use_of Given false false NoOperand OnceOnly NoNumber Whole
+uses (kind.AluRmImm op) = use_of Given true false Named OnceOnly NoNumber Whole
+uses kind.TestRmReg = use_of Given false true Named OnceOnly NoNumber Unused
+uses kind.TestAccImm = use_of Given false false NoOperand OnceOnly NoNumber Whole
+uses kind.TestRmImm = use_of Given false false Named OnceOnly NoNumber Whole
+uses kind.MovRmReg = use_of Given false true Named OnceOnly NoNumber Unused
+uses kind.MovRegRm = use_of Given false true Named OnceOnly NoNumber Unused
+uses kind.MovRegImm = use_of Given false false NoOperand OnceOnly ByRegister Whole
+uses kind.MovRmImm = use_of Given false false Named OnceOnly NoNumber Whole
+uses kind.MovAccAt = use_of Given false false AtImmediate OnceOnly NoNumber Whole
+uses kind.MovAtAcc = use_of Given false false AtImmediate OnceOnly NoNumber Whole
+uses kind.XchgRmReg = use_of Given true true Named OnceOnly NoNumber Unused
+uses kind.XchgRegAcc = use_of Given false false NoOperand OnceOnly ByRegister Unused
+uses kind.Lea = use_of Given false true Named OnceOnly NoNumber Unused
+uses (kind.Movx signed from) = use_of Given false true Named OnceOnly NoNumber Unused
+uses kind.Bswap = use_of Long false false NoOperand OnceOnly ByRegister Unused
+uses kind.PushReg = use_of Long false false NoOperand OnceOnly ByRegister Unused
+uses kind.PushImm = use_of Long false false NoOperand OnceOnly NoNumber Whole
+uses kind.PushRm = use_of Long false false Named OnceOnly NoNumber Unused
+uses kind.PopReg = use_of Long false false NoOperand OnceOnly ByRegister Unused
+uses kind.PopRm = use_of Long false false Named OnceOnly NoNumber Unused
+uses (kind.BumpReg up) = use_of Given false false NoOperand OnceOnly ByRegister Unused
+uses (kind.BumpRm up) = use_of Given true false Named OnceOnly NoNumber Unused
+uses (kind.Unary op) = use_of Given true false Named OnceOnly NoNumber Unused
+uses (kind.Mul signed) = use_of Given false false Named OnceOnly NoNumber Unused
+uses (kind.Div signed) = use_of Given false false Named OnceOnly NoNumber Unused
+uses kind.ImulRegRm = use_of Given false true Named OnceOnly NoNumber Unused
+uses kind.ImulRegRmImm = use_of Given false true Named OnceOnly NoNumber Whole
+uses (kind.ShiftImm op) = use_of Given false false Named OnceOnly NoNumber LowByte
+uses (kind.ShiftOne op) = use_of Given false false Named OnceOnly NoNumber Unused
+uses (kind.ShiftCl op) = use_of Given false false Named OnceOnly NoNumber Unused
+uses (kind.DoubleImm left) = use_of Long false true Named OnceOnly NoNumber LowByte
+uses (kind.DoubleCl left) = use_of Long false true Named OnceOnly NoNumber Unused
+uses (kind.BitReg op) = use_of Given true true Named OnceOnly NoNumber Unused
+uses (kind.BitImm op) = use_of Given true false Named OnceOnly NoNumber Whole
+uses (kind.Scan up) = use_of Given false true Named OnceOnly NoNumber Unused
+uses kind.Cmpxchg = use_of Given true true Named OnceOnly NoNumber Unused
+uses kind.Xadd = use_of Given true true Named OnceOnly NoNumber Unused
+uses kind.Set = use_of Short false false Named OnceOnly ByCondition Unused
+uses kind.Cmov = use_of Given false true Named OnceOnly ByCondition Unused
+uses kind.Cbw = use_of Given false false NoOperand OnceOnly NoNumber Unused
+uses kind.Cwd = use_of Given false false NoOperand OnceOnly NoNumber Unused
+uses (kind.Str op) = use_of Given false false NoOperand Kept NoNumber Unused
+uses (kind.Flag op) = use_of Long false false NoOperand OnceOnly NoNumber Unused
+uses kind.Pushad = use_of Long false false NoOperand OnceOnly NoNumber Unused
+uses kind.Popad = use_of Long false false NoOperand OnceOnly NoNumber Unused
+uses kind.Pushfd = use_of Long false false NoOperand OnceOnly NoNumber Unused
+uses kind.Popfd = use_of Long false false NoOperand OnceOnly NoNumber Unused
+uses kind.Leave = use_of Long false false NoOperand OnceOnly NoNumber Unused
+uses kind.Xlat = use_of Long false false NoOperand OnceOnly NoNumber Unused
+uses kind.Lahf = use_of Long false false NoOperand OnceOnly NoNumber Unused
+uses kind.Sahf = use_of Long false false NoOperand OnceOnly NoNumber Unused
+uses kind.Nop = use_of Long false false NoOperand OnceOnly NoNumber Unused
+uses kind.Pause = use_of Long false false NoOperand Stands NoNumber Unused
+uses kind.Endbr = use_of Long false false NoOperand Stands NoNumber Unused
+uses kind.ToGs = use_of Long false false Named OnceOnly NoNumber Unused
+uses kind.FromGs = use_of Selector false false Named OnceOnly NoNumber Unused
+uses kind.Cpuid = use_of Long false false NoOperand OnceOnly NoNumber Unused
+uses kind.Jump = use_of Long false false NoOperand OnceOnly NoNumber Whole
+uses kind.Branch = use_of Long false false NoOperand OnceOnly ByCondition Whole
+uses (kind.Loop which) = use_of Long false false NoOperand OnceOnly NoNumber Whole
+uses kind.Call = use_of Long false false NoOperand OnceOnly NoNumber Whole
+uses kind.JumpVia = use_of Long false false Named OnceOnly NoNumber Unused
+uses kind.CallVia = use_of Long false false Named OnceOnly NoNumber Unused
+uses kind.Ret = use_of Long false false NoOperand OnceOnly NoNumber LowHalf
+uses kind.Int80 = use_of Long false false NoOperand OnceOnly NoNumber Unused
+uses kind.Int3 = use_of Long false false NoOperand OnceOnly NoNumber Unused
+uses kind.Hlt = use_of Long false false NoOperand OnceOnly NoNumber Unused
+uses kind.Ud2 = use_of Long false false NoOperand OnceOnly NoNumber Unused
 
-abbrev pub width_by : WidthUse → Width → Width
-width_by Given w = w
-width_by Long w = D
-width_by Short w = B
+abbrev pub width_by : WidthUse → Rm → Width → Width
+width_by Given x w = w
+width_by Long x w = D
+width_by Short x w = B
+width_by Selector (rm.R r) w = w
+width_by Selector (rm.M m) w = D
 
 abbrev pub rep_by : RepeatUse → Rep → Rep
 rep_by OnceOnly rep = Once
@@ -159,10 +171,19 @@ immediate_by Whole n = n
 immediate_by LowByte n = n % 2 ^ 8
 immediate_by LowHalf n = n % 2 ^ 16
 
+abbrev pub operand_by : OperandUse → Bool → Rm → ℕ → Rm
+operand_by NoOperand gs x n = rm.R Eax
+operand_by Named gs x n = x
+operand_by AtImmediate gs x n = rm.M (at_address gs n)
+
+-- the operand that is taken
+abbrev pub operand_taken : Uses → Operands → Rm
+operand_taken u o = operand_by u.operand o.marks.gs o.rm o.immediate
+
 -- the operands with what isn't taken left out
 abbrev pub taken : Uses → Operands → Operands
 taken u o =
-    operands (width_by u.width o.width) (if u.lock then o.marks.lock else false) (rep_by u.rep o.marks.rep) (number_by u.number o.opcode) (if u.reg then o.reg else Eax) (if u.rm then o.rm else rm.R Eax) (immediate_by u.immediate o.immediate)
+    operands (width_by u.width (operand_taken u o) o.width) (if u.lock then o.marks.lock else false) (rep_by u.rep o.marks.rep) (number_by u.number o.opcode) (if u.reg then o.reg else Eax) (operand_taken u o) (immediate_by u.immediate o.immediate)
 
 -- ---- what a row means rests on what is taken
 
@@ -199,6 +220,10 @@ byte_again n = omega arith
 
 half_again : (n : ℕ) → n % 2 ^ 16 % 2 ^ 16 ≡ n % 2 ^ 16
 half_again n = omega arith
+
+selected : (w : Width) (x : Rm) → selector_width (width_by Selector x w) x ≡ selector_width w x
+selected w (rm.R r) = refl
+selected w (rm.M m) = refl
 
 pub taken_means : (k : Kind) (o : Operands) → meaning k (taken (uses k) o) ≡ meaning k o
 taken_means (kind.AluRmReg op) o = refl
@@ -258,6 +283,9 @@ taken_means kind.Sahf o = refl
 taken_means kind.Nop o = refl
 taken_means kind.Pause o = refl
 taken_means kind.Endbr o = refl
+taken_means kind.ToGs o = refl
+taken_means kind.FromGs o = ap (λ (w : Width). insn.FromGs w o.rm) (selected o.width o.rm)
+taken_means kind.Cpuid o = refl
 taken_means kind.Jump o = refl
 taken_means kind.Branch o = ap (λ (c : Cond). insn.Branch c o.immediate) (cond_again (cond_of (o.opcode % 16)))
 taken_means (kind.Loop which) o = refl
@@ -301,6 +329,11 @@ lea : (w : Width) (g : Reg) (x : Rm) → is_memory x ≡ true → general (insn.
 unfolding general
 lea w g (rm.R r) h = absurd (cc h)
 lea w g (rm.M m) h = refl
+
+stored : (w : Width) (x : Rm) → general (insn.FromGs (selector_width w x) x) ≡ of_rm kind.FromGs (width_by Selector x w) false x Eax 0
+unfolding general
+stored w (rm.R r) = refl
+stored w (rm.M m) = refl
 
 pub offered : (k : Kind) (o : Operands) → Allowed k o → Offered k o
 unfolding general special
@@ -361,6 +394,9 @@ offered kind.Sahf o h = inl refl
 offered kind.Nop o h = inl refl
 offered kind.Pause o h = inl refl
 offered kind.Endbr o h = inl refl
+offered kind.ToGs o h = inl refl
+offered kind.FromGs o h = inl (stored o.width o.rm)
+offered kind.Cpuid o h = inl refl
 offered kind.Jump o h = inl refl
 offered kind.Branch o h = inl refl
 offered (kind.Loop which) o h = inl refl
@@ -400,10 +436,10 @@ accumulates Ebp c i h = tt
 accumulates Esi c i h = tt
 accumulates Edi c i h = tt
 
-absolute : (b : Option Reg) (x : Option (Reg × ℕ)) (d : ℕ) (c : Option Candidate) (i : Mem → Insn) → MeansTo c (i (at_address d)) → MeansTo (if_absolute b x c) (i (record { base = b; index = x; disp = d }))
-absolute None None d c i h = h
-absolute None (Some p) d c i h = tt
-absolute (Some b) x d c i h = tt
+absolute : (b : Option Reg) (x : Option (Reg × ℕ)) (d : ℕ) (gs : Bool) (c : Option Candidate) (i : Mem → Insn) → MeansTo c (i (at_address gs d)) → MeansTo (if_absolute b x c) (i (record { base = b; index = x; disp = d; gs = gs }))
+absolute None None d gs c i h = h
+absolute None (Some p) d gs c i h = tt
+absolute (Some b) x d gs c i h = tt
 
 byte_kept : (n : ℕ) → n < 2 ^ 8 → n % 2 ^ 8 ≡ n
 byte_kept n h = omega arith
@@ -465,6 +501,12 @@ general_means (insn.Flag op) = λ h. refl
 general_means insn.Nop = λ h. refl
 general_means insn.Pause = λ h. refl
 general_means insn.Endbr = λ h. refl
+general_means (insn.ToGs x) = λ h. refl
+general_means (insn.FromGs w (rm.R r)) = λ h. refl
+general_means (insn.FromGs W (rm.M m)) = λ h. refl
+general_means (insn.FromGs B (rm.M m)) = tt
+general_means (insn.FromGs D (rm.M m)) = tt
+general_means insn.Cpuid = λ h. refl
 general_means (insn.Jump n) = λ h. refl
 general_means (insn.Branch c n) = λ h. ap (λ (d : Cond). insn.Branch d n) (cond_again c)
 general_means (insn.Loop which n) = λ h. refl
@@ -492,11 +534,66 @@ special_means (insn.Alu op w lock (rm.R r) (src.Imm n)) = unlocked lock (if_accu
 special_means (insn.Test w (rm.R r) (src.Imm n)) = accumulates r (of_number kind.TestAccImm w 0 n) (λ (g : Reg). insn.Test w (rm.R g) (src.Imm n)) (λ h. refl)
 special_means (insn.Mov w (rm.R r) (src.R s)) = λ h. refl
 special_means (insn.Mov w (rm.R r) (src.Imm n)) = λ h. ap (λ (g : Reg). insn.Mov w (rm.R g) (src.Imm n)) (reg_again r)
-special_means (insn.Mov w (rm.R r) (src.M m)) = accumulates r (if_absolute m.base m.index (of_number kind.MovAccAt w 0 m.disp)) (λ (g : Reg). insn.Mov w (rm.R g) (src.M m)) (absolute m.base m.index m.disp (of_number kind.MovAccAt w 0 m.disp) (λ (k : Mem). insn.Mov w (rm.R Eax) (src.M k)) (λ h. refl))
-special_means (insn.Mov w (rm.M m) (src.R r)) = accumulates r (if_absolute m.base m.index (of_number kind.MovAtAcc w 0 m.disp)) (λ (g : Reg). insn.Mov w (rm.M m) (src.R g)) (absolute m.base m.index m.disp (of_number kind.MovAtAcc w 0 m.disp) (λ (k : Mem). insn.Mov w (rm.M k) (src.R Eax)) (λ h. refl))
+special_means (insn.Mov w (rm.R r) (src.M m)) = accumulates r (if_absolute m.base m.index (of_address kind.MovAccAt w m)) (λ (g : Reg). insn.Mov w (rm.R g) (src.M m)) (absolute m.base m.index m.disp m.gs (of_address kind.MovAccAt w m) (λ (k : Mem). insn.Mov w (rm.R Eax) (src.M k)) (λ h. refl))
+special_means (insn.Mov w (rm.M m) (src.R r)) = accumulates r (if_absolute m.base m.index (of_address kind.MovAtAcc w m)) (λ (g : Reg). insn.Mov w (rm.M m) (src.R g)) (absolute m.base m.index m.disp m.gs (of_address kind.MovAtAcc w m) (λ (k : Mem). insn.Mov w (rm.M k) (src.R Eax)) (λ h. refl))
 special_means (insn.Xchg w lock (rm.R r) s) = unlocked lock (if_accumulator s (of_number kind.XchgRegAcc w (reg_number r) 0)) (λ (v : Bool). insn.Xchg w v (rm.R r) s) (accumulates s (of_number kind.XchgRegAcc w (reg_number r) 0) (λ (g : Reg). insn.Xchg w false (rm.R r) g) (λ h. ap (λ (g : Reg). insn.Xchg w false (rm.R g) Eax) (reg_again r)))
 special_means (insn.Push (src.R r)) = λ h. ap (λ (g : Reg). insn.Push (src.R g)) (reg_again r)
 special_means (insn.Pop (rm.R r)) = λ h. ap (λ (g : Reg). insn.Pop (rm.R g)) (reg_again r)
 special_means (insn.Bump up w lock (rm.R r)) = unlocked lock (of_number (kind.BumpReg up) w (reg_number r) 0) (λ (v : Bool). insn.Bump up w v (rm.R r)) (λ h. ap (λ (g : Reg). insn.Bump up w false (rm.R g)) (reg_again r))
 special_means (insn.Shift op w x (count.Imm n)) = shifted_once n (of_rm (kind.ShiftOne op) w false x Eax 0) (λ (k : ℕ). insn.Shift op w x (count.Imm k)) (λ h. refl)
 special_means i = tt
+
+-- ---- a candidate's prefix 65 is its operand's
+
+abbrev pub Agrees : Operands → Type 0
+Agrees o = o.marks.gs ≡ is_gs o.rm
+
+abbrev pub Agreed : Option Candidate → Type 0
+Agreed None = Unit {0}
+Agreed (Some c) = Agrees c.operands
+
+agreed_unlocked : (lock : Bool) (c : Option Candidate) → Agreed c → Agreed (if_unlocked lock c)
+agreed_unlocked false c h = h
+agreed_unlocked true c h = tt
+
+agreed_if : (v : Bool) (c : Option Candidate) → Agreed c → Agreed (if v then c else None)
+agreed_if true c h = h
+agreed_if false c h = tt
+
+agreed_absolute : (b : Option Reg) (x : Option (Reg × ℕ)) (c : Option Candidate) → Agreed c → Agreed (if_absolute b x c)
+agreed_absolute None None c h = h
+agreed_absolute None (Some p) c h = tt
+agreed_absolute (Some b) x c h = tt
+
+pub general_agrees : (i : Insn) → Agreed (general i)
+unfolding general
+general_agrees (insn.Alu op w lock (rm.R r) (src.M m)) = agreed_unlocked lock (of_rm (kind.AluRegRm op) w false (rm.M m) r 0) refl
+general_agrees (insn.Alu op w lock (rm.M x) (src.M m)) = tt
+general_agrees (insn.Test w dst (src.M m)) = tt
+general_agrees (insn.Mov w (rm.R r) (src.M m)) = refl
+general_agrees (insn.Mov w (rm.M x) (src.M m)) = tt
+general_agrees (insn.Push (src.M m)) = refl
+general_agrees (insn.Imul w r x None) = refl
+general_agrees (insn.Shift op w x count.Cl) = refl
+general_agrees (insn.Double left x r count.Cl) = refl
+general_agrees (insn.Bit op w lock x (src.M m)) = tt
+general_agrees (insn.FromGs w (rm.R r)) = refl
+general_agrees (insn.FromGs B (rm.M m)) = tt
+general_agrees (insn.FromGs D (rm.M m)) = tt
+general_agrees i = refl
+
+pub special_agrees : (i : Insn) → Agreed (special i)
+unfolding special
+special_agrees (insn.Alu op w lock (rm.R r) (src.R s)) = agreed_unlocked lock (of_rm (kind.AluRegRm op) w false (rm.R s) r 0) refl
+special_agrees (insn.Alu op w lock (rm.R r) (src.Imm n)) = agreed_unlocked lock (if_accumulator r (of_number (kind.AluAccImm op) w 0 n)) (agreed_if (reg_number r == 0) (of_number (kind.AluAccImm op) w 0 n) refl)
+special_agrees (insn.Test w (rm.R r) (src.Imm n)) = agreed_if (reg_number r == 0) (of_number kind.TestAccImm w 0 n) refl
+special_agrees (insn.Mov w (rm.R r) (src.R s)) = refl
+special_agrees (insn.Mov w (rm.R r) (src.Imm n)) = refl
+special_agrees (insn.Mov w (rm.R r) (src.M m)) = agreed_if (reg_number r == 0) (if_absolute m.base m.index (of_address kind.MovAccAt w m)) (agreed_absolute m.base m.index (of_address kind.MovAccAt w m) refl)
+special_agrees (insn.Mov w (rm.M m) (src.R r)) = agreed_if (reg_number r == 0) (if_absolute m.base m.index (of_address kind.MovAtAcc w m)) (agreed_absolute m.base m.index (of_address kind.MovAtAcc w m) refl)
+special_agrees (insn.Xchg w lock (rm.R r) s) = agreed_unlocked lock (if_accumulator s (of_number kind.XchgRegAcc w (reg_number r) 0)) (agreed_if (reg_number s == 0) (of_number kind.XchgRegAcc w (reg_number r) 0) refl)
+special_agrees (insn.Push (src.R r)) = refl
+special_agrees (insn.Pop (rm.R r)) = refl
+special_agrees (insn.Bump up w lock (rm.R r)) = agreed_unlocked lock (of_number (kind.BumpReg up) w (reg_number r) 0) refl
+special_agrees (insn.Shift op w x (count.Imm n)) = agreed_if (n == 1) (of_rm (kind.ShiftOne op) w false x Eax 0) refl
+special_agrees i = tt
