@@ -75,7 +75,8 @@ module _ (held : List ℕ) (eight : length held ≡ 8) where
 
 state : List ℕ → State
 state held = record {
-  core = record { regs = 0 ∷ 7 ∷ 0 ∷ 0 ∷ 0 ∷ 0 ∷ 0 ∷ 0 ∷ []; flags = record { cf = true; pf = false; af = false; zf = false; sf = false; df = true; of = true; id = false } };
+  core = record { regs = 0 ∷ 7 ∷ 0 ∷ 0 ∷ 0 ∷ 0 ∷ 0 ∷ 0 ∷ []; flags = record { cf = true; pf = false; af = false; zf = false; sf = false; df = true; of = true; id = false }; gs = 0x33; gs_base = Some 0x08048040 };
+  descs = (6, 0x08048040) ∷ [];
   eip = 0x00100000;
   memory = memory held;
   answers = [];
@@ -101,7 +102,7 @@ code_apart i l =
 is_counting : (n : ℕ) → n < 2 ^ 64 → IsCounting 0x00105000 0x00105040 0x00100000 n (state (little_bytes 8 n))
 unfolding state code
 is_counting n fits = record {
-  core = record { eight = refl; fits = small };
+  core = record { eight = refl; fits = small; selector = omega arith; base = omega arith };
   top = top (little_bytes 8 n) refl;
   place = refl;
   code = record { byte = λ k l. ap exec_byte_of (code_at (little_bytes 8 n) refl k l); low = omega (arith, code_len) };

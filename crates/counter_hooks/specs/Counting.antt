@@ -30,9 +30,9 @@ pub record IsCounting (p k at n : ℕ) (s : State) : Type 0 where
   pub number : bytes_at s.memory k 8 ≡ little_bytes 8 n
   pub fits : n < 2 ^ 64
 
--- so many steps complete and come to the address behind the counter with the same registers and flags, and one more in
--- its eight bytes, modulo 2^64; each state on the way, and the last one, has the same calls made, answers left and cells,
--- but for what the counter writes
+-- so many steps complete and come to the address behind the counter with the same registers, flags and GS, and one more
+-- in its eight bytes, modulo 2^64; each state on the way, and the last one, has the same descriptors, calls made, answers
+-- left and cells, but for what the counter writes
 pub record Counts (p k at n : ℕ) (s : State) : Type 0 where
   pub last : State
   pub passes : Passes (KeepsRest (is_scratch p k) s) (counting_steps n) s last

@@ -86,6 +86,8 @@ module _ (p k at n : ℕ) (s : State) (h : IsCounting p k at n s) where
     esi = slice_index s.core.regs 6;
     edi = slice_index s.core.regs 7;
     flags = s.core.flags;
+    gs = s.core.gs;
+    gs_base = s.core.gs_base;
   }
 
   abbrev ecx : ℕ

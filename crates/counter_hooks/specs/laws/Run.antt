@@ -1,5 +1,5 @@
 -- A symbolic run of a counter, one line a step.
-use Rattle.std.proofs.Common.{◌≡◌, ℕ, suc, zero, ◌+◌, ◌%◌, ◌^◌, ◌<◌, Bool, true, false, ◌==◌, List, [], ◌∷◌, None, Some, nat_lt, refl, ap, arith}
+use Rattle.std.proofs.Common.{◌≡◌, ℕ, suc, zero, ◌+◌, ◌%◌, ◌^◌, ◌<◌, Bool, true, false, ◌==◌, List, [], ◌∷◌, Option, None, Some, nat_lt, refl, ap, arith}
 use Rattle.mv_base.specs.Bytes.{word}
 use Rattle.mv_base.specs.Memory.{bytes_at}
 use Rattle.x86_insn.specs.declared.ask.Ask.TheVariants.{Ends}
@@ -23,7 +23,7 @@ word_place p k (suc (suc j)) = k + 4
 abbrev pub may : ℕ → Bool
 may j = nat_lt j 3
 
--- the registers but ECX, and the flags
+-- the registers but ECX, the flags, and GS
 pub record Kept : Type 0 where
   pub eax : ℕ
   pub edx : ℕ
@@ -33,16 +33,18 @@ pub record Kept : Type 0 where
   pub esi : ℕ
   pub edi : ℕ
   pub flags : Flags
+  pub gs : ℕ
+  pub gs_base : Option ℕ
 
 -- with a number in ECX
 abbrev pub core_with : Kept → ℕ → Core
-core_with r ecx = core_of r.eax ecx r.edx r.ebx r.esp r.ebp r.esi r.edi r.flags
+core_with r ecx = core_of r.eax ecx r.edx r.ebx r.esp r.ebp r.esi r.edi r.flags r.gs r.gs_base
 
 -- one more, as LEA gives it
 abbrev pub raised : ℕ → ℕ
 raised n = (n + 1) % 2 ^ 32
 
-raised_is : (n : ℕ) → (n + 0 + 1) % 2 ^ 32 % 2 ^ 32 ≡ raised n
+raised_is : (n : ℕ) → (0 + n + 0 + 1) % 2 ^ 32 % 2 ^ 32 ≡ raised n
 raised_is n = omega arith
 
 raised_low : (n : ℕ) → raised n < 2 ^ 32

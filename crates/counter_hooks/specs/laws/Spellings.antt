@@ -1,5 +1,5 @@
 -- What the bytes of a counter spell.
-use Rattle.std.proofs.Common.{ℕ, ◌^◌, ◌<◌, [], ◌∷◌, Some, None, refl, arith}
+use Rattle.std.proofs.Common.{ℕ, ◌^◌, ◌<◌, false, [], ◌∷◌, Some, None, refl, arith}
 use Rattle.mv_base.specs.Bytes.{word}
 use Rattle.x86_insn.specs.declared.insn.Insn.TheVariants as insn
 use Rattle.x86_insn.specs.declared.insn.LoopKind.TheVariants.{Ecxz}
@@ -14,10 +14,10 @@ use Rattle.step_laws.specs.laws.Spelled.{Spelled, with_number}
 
 -- the word at an address, and the number above ECX
 abbrev pub at_address : ℕ → Mem
-at_address n = record { base = None; index = None; disp = n }
+at_address n = record { base = None; index = None; disp = n; gs = false }
 
 abbrev pub one_above : Mem
-one_above = record { base = Some Ecx; index = None; disp = 1 }
+one_above = record { base = Some Ecx; index = None; disp = 1; gs = false }
 
 pub keep : (n : ℕ) → n < 2 ^ 32 → Spelled (0x89 ∷ 0x0D ∷ word n) (insn.Mov D (rm.M (at_address n)) (src.R Ecx))
 unfolding rows
