@@ -97,10 +97,10 @@ module _ (area : Area) (c : Cond) (here to next rel : ℕ) (o t : State) (at : A
   branch_reaches : (b : Bool) → holds c o.core.flags ≡ b → Branches (if b then target_of next rel else next) (record t { eip = if b then to else here + 6 })
       → Reaches area 1 Branches o (record o { eip = if b then target_of next rel else next }) t
   branch_reaches b e arrives =
-      let same : KeepsRest area.scratch t t = record { calls = refl; answers = refl; memory = keeps_self area.scratch t.memory } in
+      let same : KeepsRest area.scratch t t = record { descs = refl; calls = refl; answers = refl; memory = keeps_self area.scratch t.memory } in
       rest_reaches area o t at.area_there at.beside 1 Branches _ (record t { eip = if b then to else here + 6 })
-      (passes_one (KeepsRest area.scratch t) t _ same (branch_steps b e)) (record { calls = refl; answers = refl; memory = keeps_self area.scratch t.memory })
-      at.beside.core refl refl refl arrives
+      (passes_one (KeepsRest area.scratch t) t _ same (branch_steps b e)) (record { descs = refl; calls = refl; answers = refl; memory = keeps_self area.scratch t.memory })
+      at.beside.core refl refl refl refl arrives
 
   branch_goes : (b : Bool) → holds c o.core.flags ≡ b → Reaches area 1 Branches o (record o { eip = if b then target_of next rel else next }) t
   branch_goes true e = branch_reaches true e (inl (refl, refl))
@@ -177,7 +177,7 @@ module _ (area : Area) (k : LoopKind) (here to next rel : ℕ) (o t : State) (at
       rest_reaches area o t at.area_there at.beside 2 Counts _ (on g (loop_core k t.core) e [])
       (subst (λ (s : State). Passes (KeepsRest area.scratch t) 2 s (on g (loop_core k t.core) e [])) begins comes.passes)
       (keeps_rest g (loop_core k t.core) e [] refl)
-      (ap (loop_core k) at.beside.core) refl refl refl arrives
+      (ap (loop_core k) at.beside.core) refl refl refl refl arrives
 
   count_goes : (b : Bool) → loop_jumps k (loop_core k o.core) ≡ b → Reaches area 2 Counts o (record o { core = loop_core k o.core; eip = if b then target_of next rel else next }) t
   count_goes true e = count_reaches true to (jumps (ap (λ (d : Core). loop_jumps k (loop_core k d)) at.beside.core ∙ e)) (inl (refl, refl))
