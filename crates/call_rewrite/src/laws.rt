@@ -24,8 +24,8 @@ pub fn calls_meet()
         (executed o (insn.Call rel) next flow.Call) }
 {}
 
-/// The piece of a call through an operand reads the target, pushes, and goes to the stub, in six steps; where the read or
-/// the push faults it faults alike, with the call's registers.
+/// The piece of a call through an operand reads the target, pushes, and goes to the stub, in six steps; where the operand
+/// can't be reached, or the read or the push faults, it stops alike, with the call's registers.
 pub fn calls_via_meet()
     ensures { (area : Area) (here next stub : ℕ) (load : List ℕ) (operand : Operand) (o t : State) →
         AtPiece area here (concat (call_via_parts load next here stub area.private)) o t →
@@ -34,8 +34,8 @@ pub fn calls_via_meet()
         Meets area 6 (GoesVia area stub) o t (executed o (insn.CallVia operand) next flow.CallVia) }
 {}
 
-/// The piece of a jump through an operand reads the target and goes to the stub, in five steps; where the read faults it
-/// faults alike, with the jump's registers.
+/// The piece of a jump through an operand reads the target and goes to the stub, in five steps; where the operand can't be
+/// reached, or the read faults, it stops alike, with the jump's registers.
 pub fn jumps_via_meet()
     ensures { (area : Area) (here next stub : ℕ) (load : List ℕ) (operand : Operand) (o t : State) →
         AtPiece area here (concat (jump_via_parts load here stub area.private)) o t →

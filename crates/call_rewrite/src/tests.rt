@@ -42,6 +42,7 @@ fn goes_through_an_operand(rt: HostRuntime) {
         base: None,
         index: Some((Reg::Eax, 4)),
         disp: 0x1234_5678,
+        gs: false,
     };
     let call = site(
         7,

@@ -1,5 +1,5 @@
 -- Symbolic runs that write the first two private words, and what they read of a memory that stands beside another.
-use Rattle.std.specs.Prelude.{◌≡◌, ℕ, ◌+◌, ◌*◌, ◌<◌, Bool, true, List, [], Some, None, nat_lt}
+use Rattle.std.specs.Prelude.{◌≡◌, ℕ, ◌+◌, ◌*◌, ◌<◌, Bool, true, false, List, [], Some, None, nat_lt}
 use Rattle.std.specs.List.{concat}
 use Rattle.std.proofs.Common.{refl, sym, ap, ap₂, ◌∙◌, subst, arith}
 use Rattle.std.proofs.lemmas.Bool.{ltb-true}
@@ -10,6 +10,7 @@ use Rattle.x86_insn.specs.declared.insn.Rm.TheVariants as rm
 use Rattle.x86_insn.specs.declared.registers.Core.{Core}
 use Rattle.x86_insn.specs.Operands.{effective_address}
 use Rattle.x86_insn.specs.State.{State}
+use Rattle.x86_insn.specs.Round.{rm_beyond}
 use Rattle.step_laws.specs.Standing.{IsRoom}
 use Rattle.step_laws.specs.Bounds.{IsState}
 use Rattle.step_laws.specs.Beside.{StatesBeside}
@@ -22,7 +23,7 @@ use Rattle.step_laws.specs.laws.PrivateWords.{word_place, word_places}
 use Rattle.step_laws.specs.laws.Turns.{moved}
 use Rattle.step_laws.specs.laws.Symbolic.{Setting, Code, Word, memory_of, on}
 use Rattle.step_laws.specs.laws.Resting.{cells_keep, cells_beside, rest_top}
-use Rattle.call_rewrite.specs.laws.Operands.{operand_value, operand_fault}
+use Rattle.call_rewrite.specs.laws.Operands.{operand_value, operand_fault, stop_by, operand_stop, IsClearIfSome, reached, clear_fault}
 
 abbrev pub first_two : ℕ → Bool
 first_two j = nat_lt j 2
@@ -73,13 +74,24 @@ module _ (area : Area) (o t : State) (there : HasArea area t.memory) (w : States
       }
 
   -- an operand is read as o reads it
-  pub fault_along : (log : Log) (c : Core) (src : Rm) → may_all first_two log ≡ true → IsClearFault area.added (operand_fault o.memory c src) → operand_fault (memory_of own log) c src ≡ operand_fault o.memory c src
+  fault_along : (log : Log) (c : Core) (src : Rm) → may_all first_two log ≡ true → IsClearFault area.added (operand_fault o.memory c src) → operand_fault (memory_of own log) c src ≡ operand_fault o.memory c src
   fault_along log c (rm.R r) ok clear = refl
   fault_along log c (rm.M a) ok clear = read_fault_along area there.low t.memory o.memory (memory_of own log) (along log ok) (effective_address c a) 4 clear
 
-  pub value_along : (log : Log) (c : Core) (src : Rm) → may_all first_two log ≡ true → operand_fault o.memory c src ≡ None → operand_value (memory_of own log) c src ≡ operand_value o.memory c src
-  value_along log c (rm.R r) ok none = refl
-  value_along log c (rm.M a) ok none = ap (little_number 4) (bytes_along area there.low t.memory o.memory (memory_of own log) (along log ok) (effective_address c a) 4 none)
+  -- and can't be where o can't read it
+  pub stop_along : (log : Log) (c : Core) (src : Rm) → may_all first_two log ≡ true → IsClearIfSome area.added (operand_stop o.memory c src) → operand_stop (memory_of own log) c src ≡ operand_stop o.memory c src
+  stop_along log c src ok clear = by (rm_beyond c src) clear
+    where
+      by : (b : Bool) → IsClearIfSome area.added (stop_by b (operand_fault o.memory c src)) → stop_by b (operand_fault (memory_of own log) c src) ≡ stop_by b (operand_fault o.memory c src)
+      by true clear = refl
+      by false clear = ap (stop_by false) (fault_along log c src ok (clear_fault area.added (operand_fault o.memory c src) clear))
+
+  read_along : (log : Log) (c : Core) (src : Rm) → may_all first_two log ≡ true → operand_fault o.memory c src ≡ None → operand_value (memory_of own log) c src ≡ operand_value o.memory c src
+  read_along log c (rm.R r) ok none = refl
+  read_along log c (rm.M a) ok none = ap (little_number 4) (bytes_along area there.low t.memory o.memory (memory_of own log) (along log ok) (effective_address c a) 4 none)
+
+  pub value_along : (log : Log) (c : Core) (src : Rm) → may_all first_two log ≡ true → operand_stop o.memory c src ≡ None → operand_value (memory_of own log) c src ≡ operand_value o.memory c src
+  value_along log c src ok none = read_along log c src ok (reached (rm_beyond c src) (operand_fault o.memory c src) none).1
 
   -- a word of o's memory
   pub word_along : (log : Log) (a : ℕ) → may_all first_two log ≡ true → read_fault o.memory a 4 ≡ None → Word own log a (little_number 4 (bytes_at o.memory a 4))

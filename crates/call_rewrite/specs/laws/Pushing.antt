@@ -5,6 +5,7 @@ use Rattle.std.proofs.Common.{refl, sym, ap, ap₂, ◌∙◌, subst, inl, inr, 
 use Rattle.std.proofs.lemmas.Bool.{both_ways, cases_lt}
 use Rattle.mv_base.specs.Bytes.{word}
 use Rattle.mv_base.specs.Memory.{Memory, is_writable, address_after, distance, put, write_fault}
+use Rattle.mv_base.specs.Effects.{Descs}
 use Rattle.x86_insn.specs.declared.insn.Insn.TheVariants as insn
 use Rattle.x86_insn.specs.declared.insn.Reg.TheVariants.{Esp}
 use Rattle.x86_insn.specs.declared.insn.Src.TheVariants as src
@@ -56,9 +57,9 @@ pushing_fails o n to at fault = ap (after_hop o) (turn_write_faults o.memory (λ
 abbrev pub GoesKeeping : Area → State → ℕ → ℕ → ℕ → State → Type 0
 GoesKeeping area t target to a u = (a ≡ target) × (u.eip ≡ to) × ((x : ℕ) → area.added x ≡ true → u.memory x ≡ t.memory x)
 
-push_asks : (n : ℕ) (c : Core) → n < 2 ^ 32 → round (insn.Push (src.Imm n)) c [] ≡ pushes false n c
+push_asks : (n : ℕ) (ds : Descs) (c : Core) → n < 2 ^ 32 → round (insn.Push (src.Imm n)) ds c [] ≡ pushes false n c
 unfolding round got_src
-push_asks n c low = let whole : n % 2 ^ 32 ≡ n = omega arith in ap (λ (k : ℕ). pushes false k c) whole
+push_asks n ds c low = let whole : n % 2 ^ 32 ≡ n = omega arith in ap (λ (k : ℕ). pushes false k c) whole
 
 push_once : (n : ℕ) (c : Core) → limit (insn.Push (src.Imm n)) c ≡ 1
 unfolding limit
@@ -107,15 +108,15 @@ module _ (area : Area) (here n to target : ℕ) (o t : State) (at : AtPiece area
   push_steps : write_fault t.memory a 4 ≡ None → step t ≡ Next pushed
   push_steps free =
       starts_there
-      ∙ runs t o.core here t.memory (insn.Push (src.Imm n)) 5 push_found refl (push_once n o.core) (lowered 4 o.core) (put t.memory a (bytes_of D n))
-      (turn_writes t.memory (round (insn.Push (src.Imm n)) o.core) (lowered 4 o.core) a (bytes_of D n) false (push_asks n o.core low) free)
+      ∙ runs t o.core here t.memory (insn.Push (src.Imm n)) 5 push_found refl refl (push_once n o.core) (lowered 4 o.core) (put t.memory a (bytes_of D n))
+      (turn_writes t.memory (round (insn.Push (src.Imm n)) t.descs o.core) (lowered 4 o.core) a (bytes_of D n) false (push_asks n t.descs o.core low) free)
       ∙ ap (λ (e : ℕ). Next (record pushed { eip = e })) behind_push
 
   push_stops : (f : ℕ) → write_fault t.memory a 4 ≡ Some f → step t ≡ Stopped (Trap WriteFault f) (moved t o.core here t.memory)
   push_stops f fault =
       starts_there
-      ∙ halts t o.core here t.memory (insn.Push (src.Imm n)) 5 push_found refl (push_once n o.core) (Trap WriteFault f)
-      (turn_write_faults t.memory (round (insn.Push (src.Imm n)) o.core) (lowered 4 o.core) a (bytes_of D n) false f (push_asks n o.core low) fault)
+      ∙ halts t o.core here t.memory (insn.Push (src.Imm n)) 5 push_found refl refl (push_once n o.core) (Trap WriteFault f)
+      (turn_write_faults t.memory (round (insn.Push (src.Imm n)) t.descs o.core) (lowered 4 o.core) a (bytes_of D n) false f (push_asks n t.descs o.core low) fault)
 
   pushes_by : (r : Option ℕ) → write_fault o.memory a 4 ≡ r → IsClearOutcome area.added (pushing o n target) → Meets area 2 (GoesKeeping area t target to) o t (pushing o n target)
   pushes_by None e clear =
@@ -123,13 +124,13 @@ module _ (area : Area) (here n to target : ℕ) (o t : State) (at : AtPiece area
       let both = granted_along area at.area_there.low t.memory o.memory t.memory a (bytes_of D n) e along in
       let o' : State = record o { core = lowered 4 o.core; memory = put o.memory a (bytes_of D n); eip = target } in
       let last : State = record pushed { eip = to } in
-      let alike : StatesBeside area.added o' pushed = record { core = refl; calls = at.beside.calls; answers = at.beside.answers; memory = both.beside } in
+      let alike : StatesBeside area.added o' pushed = record { core = refl; descs = at.beside.descs; calls = at.beside.calls; answers = at.beside.answers; memory = both.beside } in
       let jumps : step pushed ≡ Next last = jump_step area pushed (here + 5) to (keeps_stand area t.memory pushed.memory (here + 5) (jump_bytes (here + 5) to) both.keeps jump_there) refl to_low in
       let quiet : State → Type 0 = λ u. ShowsSame area.added o u ⊎ ShowsSame area.added o' u in
       let there : Reaches area 2 (GoesKeeping area t target to) o o' t = record {
         last = last;
         passes = passes_first quiet 1 t pushed last (inl (shows_of area.added o t at.beside)) (push_steps free) (passes_one quiet pushed last (inr (shows_of area.added o' pushed alike)) jumps);
-        alike = record { core = refl; calls = at.beside.calls; answers = at.beside.answers; memory = both.beside };
+        alike = record { core = refl; descs = at.beside.descs; calls = at.beside.calls; answers = at.beside.answers; memory = both.beside };
         keeps = both.keeps;
         arrives = (refl, refl, granted_apart area o.memory t.memory a (bytes_of D n) at.area_there.low along.low at.beside.memory e);
       } in
@@ -146,7 +147,7 @@ module _ (area : Area) (here n to target : ℕ) (o t : State) (at : AtPiece area
         passes = passes_none (ShowsSame area.added o) t;
         shows = shows_of area.added o t at.beside;
         stops = push_stops f fault;
-        alike = record { core = refl; calls = at.beside.calls; answers = at.beside.answers; memory = at.beside.memory };
+        alike = record { core = refl; descs = at.beside.descs; calls = at.beside.calls; answers = at.beside.answers; memory = at.beside.memory };
         keeps = keeps_same area t.memory;
       } in
       subst (Meets area 2 (GoesKeeping area t target to) o t) (sym stops) there

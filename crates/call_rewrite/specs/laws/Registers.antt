@@ -1,5 +1,5 @@
 -- Registers that are set twice.
-use Rattle.std.specs.Prelude.{◌≡◌, ℕ, zero, suc, ◌+◌, ◌%◌, ◌^◌, List, [], ◌∷◌, length, Some, None, slice_index, slice_set}
+use Rattle.std.specs.Prelude.{◌≡◌, ℕ, zero, suc, ◌+◌, ◌%◌, ◌^◌, false, List, [], ◌∷◌, length, Some, None, slice_index, slice_set}
 use Rattle.std.proofs.Common.{refl, ap, ◌∙◌, arith}
 use Rattle.std.proofs.lemmas.List.{get_or-set_same, set-get_or}
 use Rattle.mv_base.specs.Memory.{address_after}
@@ -22,10 +22,10 @@ pub eax_again : (c : Core) (v : ℕ) → set_reg D Eax (reg c Eax) (set_reg D Ea
 eax_again c v = ap (λ (l : List ℕ). record c { regs = l }) (set_twice c.regs 0 v (slice_index c.regs 0) ∙ set-get_or c.regs 0 0)
 
 -- LEA ESP,[ESP+n] behind a pop
-pub drops : (c : Core) (n : ℕ) → length c.regs ≡ 8 → set_reg D Esp (effective_address (risen 4 c) (record { base = Some Esp; index = None; disp = n % 2 ^ 32 }) % 2 ^ 32) (risen 4 c) ≡ risen (4 + n) c
+pub drops : (c : Core) (n : ℕ) → length c.regs ≡ 8 → set_reg D Esp (effective_address (risen 4 c) (record { base = Some Esp; index = None; disp = n % 2 ^ 32; gs = false }) % 2 ^ 32) (risen 4 c) ≡ risen (4 + n) c
 drops c n eight =
     let esp : slice_index (slice_set c.regs 4 (address_after (reg c Esp) 4)) 4 ≡ address_after (reg c Esp) 4 = get_or-set_same c.regs 4 (address_after (reg c Esp) 4) 0 (omega (arith, eight)) in
-    let sum : (address_after (reg c Esp) 4 + 0 + n % 2 ^ 32) % 2 ^ 32 % 2 ^ 32 ≡ address_after (reg c Esp) (4 + n) = omega arith in
-    ap (λ (a : ℕ). record c { regs = slice_set (slice_set c.regs 4 (address_after (reg c Esp) 4)) 4 ((a + 0 + n % 2 ^ 32) % 2 ^ 32 % 2 ^ 32) }) esp
+    let sum : (0 + address_after (reg c Esp) 4 + 0 + n % 2 ^ 32) % 2 ^ 32 % 2 ^ 32 ≡ address_after (reg c Esp) (4 + n) = omega arith in
+    ap (λ (a : ℕ). record c { regs = slice_set (slice_set c.regs 4 (address_after (reg c Esp) 4)) 4 ((0 + a + 0 + n % 2 ^ 32) % 2 ^ 32 % 2 ^ 32) }) esp
     ∙ ap (λ (a : ℕ). record c { regs = slice_set (slice_set c.regs 4 (address_after (reg c Esp) 4)) 4 a }) sum
     ∙ ap (λ (l : List ℕ). record c { regs = l }) (set_twice c.regs 4 (address_after (reg c Esp) 4) (address_after (reg c Esp) (4 + n)))

@@ -5,6 +5,7 @@ use Rattle.std.proofs.Common.{refl, sym, ap, ap₂, ◌∙◌, subst, arith}
 use Rattle.byteorder.specs.Endian.{little_number}
 use Rattle.mv_base.specs.Bytes.{word}
 use Rattle.mv_base.specs.Memory.{address_after, read_fault, bytes_at}
+use Rattle.mv_base.specs.Effects.{Descs}
 use Rattle.x86_insn.specs.declared.ask.Ask.TheVariants.{Ends}
 use Rattle.x86_insn.specs.declared.insn.Insn.{Insn}
 use Rattle.x86_insn.specs.declared.insn.Insn.TheVariants as insn
@@ -41,9 +42,9 @@ use Rattle.call_rewrite.specs.Far.{return_steps, pop_bytes, drop_bytes, return_p
 use Rattle.call_rewrite.specs.laws.Registers.{drops}
 use Rattle.call_rewrite.specs.laws.Private.{own, settled, begins, alongside, code_of, word_along, via_arrives}
 
-pop_spelled : (n : ℕ) → n < 2 ^ 32 → Spelled (pop_bytes n) (insn.Pop (rm.M (record { base = None; index = None; disp = n })))
+pop_spelled : (n : ℕ) → n < 2 ^ 32 → Spelled (pop_bytes n) (insn.Pop (rm.M (record { base = None; index = None; disp = n; gs = false })))
 unfolding rows
-pop_spelled n low = with_number (0x8F ∷ 0x05 ∷ []) (λ k. insn.Pop (rm.M (record { base = None; index = None; disp = k }))) (λ a b c d. refl) (omega arith) refl n low
+pop_spelled n low = with_number (0x8F ∷ 0x05 ∷ []) (λ k. insn.Pop (rm.M (record { base = None; index = None; disp = k; gs = false }))) (λ a b c d. refl) (omega arith) refl n low
 
 -- four bytes hold a number modulo 2^32
 word_wraps : (n : ℕ) → word (n % 2 ^ 32) ≡ word n
@@ -55,12 +56,12 @@ word_wraps n =
     let fourth : n % 2 ^ 32 / 16777216 % 256 ≡ n / 16777216 % 256 = omega arith in
     ap₂ (λ (a : ℕ) (l : List ℕ). a ∷ l) first (ap₂ (λ (a : ℕ) (l : List ℕ). a ∷ l) second (ap₂ (λ (a : ℕ) (l : List ℕ). a ∷ l) third (ap (λ (a : ℕ). a ∷ []) fourth)))
 
-drop_number : (n : ℕ) → n < 2 ^ 32 → Spelled (drop_bytes n) (insn.Lea D Esp (record { base = Some Esp; index = None; disp = n }))
+drop_number : (n : ℕ) → n < 2 ^ 32 → Spelled (drop_bytes n) (insn.Lea D Esp (record { base = Some Esp; index = None; disp = n; gs = false }))
 unfolding rows
-drop_number n low = with_number (0x8D ∷ 0xA4 ∷ 0x24 ∷ []) (λ k. insn.Lea D Esp (record { base = Some Esp; index = None; disp = k })) (λ a b c d. refl) (omega arith) refl n low
+drop_number n low = with_number (0x8D ∷ 0xA4 ∷ 0x24 ∷ []) (λ k. insn.Lea D Esp (record { base = Some Esp; index = None; disp = k; gs = false })) (λ a b c d. refl) (omega arith) refl n low
 
-drop_spelled : (n : ℕ) → Spelled (drop_bytes n) (insn.Lea D Esp (record { base = Some Esp; index = None; disp = n % 2 ^ 32 }))
-drop_spelled n = subst (λ (l : List ℕ). Spelled (0x8D ∷ 0xA4 ∷ 0x24 ∷ l) (insn.Lea D Esp (record { base = Some Esp; index = None; disp = n % 2 ^ 32 }))) (word_wraps n) (drop_number (n % 2 ^ 32) (omega arith))
+drop_spelled : (n : ℕ) → Spelled (drop_bytes n) (insn.Lea D Esp (record { base = Some Esp; index = None; disp = n % 2 ^ 32; gs = false }))
+drop_spelled n = subst (λ (l : List ℕ). Spelled (0x8D ∷ 0xA4 ∷ 0x24 ∷ l) (insn.Lea D Esp (record { base = Some Esp; index = None; disp = n % 2 ^ 32; gs = false }))) (word_wraps n) (drop_number (n % 2 ^ 32) (omega arith))
 
 -- where a return goes, or where its read faults
 return_done : (o : State) (next drop : ℕ) → read_fault o.memory (reg o.core Esp) 4 ≡ None
@@ -79,9 +80,9 @@ jumps_on e here n to same low h =
     let place : e + 5 ≡ address_after (address_after here n) 5 = omega arith in
     ap (λ (a : ℕ). address_after a (reach (address_after here n) to)) place ∙ jump_goes (address_after here n) to h
 
-lea_asks : (c : Core) (n : ℕ) → length c.regs ≡ 8 → round (insn.Lea D Esp (record { base = Some Esp; index = None; disp = n % 2 ^ 32 })) (risen 4 c) [] ≡ Ends (risen (4 + n) c) None false
+lea_asks : (ds : Descs) (c : Core) (n : ℕ) → length c.regs ≡ 8 → round (insn.Lea D Esp (record { base = Some Esp; index = None; disp = n % 2 ^ 32; gs = false })) ds (risen 4 c) [] ≡ Ends (risen (4 + n) c) None false
 unfolding round
-lea_asks c n eight = ap (λ (d : Core). Ends d None false) (drops c n eight)
+lea_asks ds c n eight = ap (λ (d : Core). Ends d None false) (drops c n eight)
 
 pub some_steps : (n : ℕ) → 0 < return_steps n
 some_steps zero = omega arith
@@ -111,7 +112,7 @@ module _ (area : Area) (here drop next stub : ℕ) (o t : State) (at : AtPiece a
   returns_by (suc n) e none =
       let code = code_of area o t at.area_there at.beside at.bounds here (return_parts (suc n) here stub area.private) (subst (λ (n : ℕ). StandsIn area t.memory here (concat (return_parts n here stub area.private))) e at.stands) in
       pop_to g 1 to (pop_spelled (area.private + 4) private_low) (absolute (area.private + 4) private_low) (word_along area o t at.area_there at.beside at.bounds [] esp refl none) refl refl code (λ code.
-      quiet g (drop_spelled (suc n)) refl (lea_asks o.core (suc n) at.bounds.core.eight) refl code (λ code.
+      quiet g (drop_spelled (suc n)) refl (lea_asks t.descs o.core (suc n) at.bounds.core.eight) refl code (λ code.
       jump g stub (jump_spelled (address_after here 13) stub) (jumps_on (here + 6 + 7) here 13 stub (omega arith) (omega (arith, code.stands.low)) stub_low) refl code (done g)))
 
   returns_via : Comes g (return_steps drop) o.core here [] (on g (risen (4 + drop) o.core) stub ((1, to) ∷ [])) → Reaches area (return_steps drop) (GoesVia area stub) o (record o { core = risen (4 + drop) o.core; eip = to }) t
@@ -119,7 +120,7 @@ module _ (area : Area) (here drop next stub : ℕ) (o t : State) (at : AtPiece a
       let last : State = on g (risen (4 + drop) o.core) stub ((1, to) ∷ []) in
       rest_reaches area o t at.area_there at.beside (return_steps drop) (GoesVia area stub) (record o { core = risen (4 + drop) o.core; eip = to }) last
       (subst (λ (s : State). Passes (KeepsRest area.scratch t) (return_steps drop) s last) (begins area o t at.area_there at.beside at.bounds here at.place) comes.passes)
-      (keeps_rest g (risen (4 + drop) o.core) stub ((1, to) ∷ []) refl) refl refl refl refl
+      (keeps_rest g (risen (4 + drop) o.core) stub ((1, to) ∷ []) refl) refl refl refl refl refl
       (via_arrives area o t at.area_there at.beside at.bounds (risen (4 + drop) o.core) stub to ((1, to) ∷ []) refl refl)
 
   -- the pop that faults
@@ -128,14 +129,14 @@ module _ (area : Area) (here drop next stub : ℕ) (o t : State) (at : AtPiece a
   pop_there (suc n) e = stands_front t.memory here (pop_bytes (area.private + 4)) _ (subst (λ (n : ℕ). StandsIn area t.memory here (concat (return_parts n here stub area.private))) e at.stands).stands
 
   abbrev pops : Insn
-  pops = insn.Pop (rm.M (record { base = None; index = None; disp = area.private + 4 }))
+  pops = insn.Pop (rm.M (record { base = None; index = None; disp = area.private + 4; gs = false }))
 
   pop_stops : (f : ℕ) → read_fault t.memory esp 4 ≡ Some f → step t ≡ Stopped (Trap ReadFault f) t
   unfolding round got_at limit
   pop_stops f fault =
       let found = standing_fetched t.memory here (pop_bytes (area.private + 4)) pops (pop_spelled (area.private + 4) private_low).spells (pop_there drop refl) in
       subst (λ (s : State). step s ≡ Stopped (Trap ReadFault f) s) (settled area o t at.area_there at.beside at.bounds here at.place)
-      (halts t o.core here t.memory pops (length (pop_bytes (area.private + 4))) found refl refl (Trap ReadFault f) (turn_read_faults t.memory (round pops o.core) esp 4 f refl fault))
+      (halts t o.core here t.memory pops (length (pop_bytes (area.private + 4))) found refl refl refl (Trap ReadFault f) (turn_read_faults t.memory (round pops t.descs o.core) esp 4 f refl fault))
 
   return_by : (r : Option ℕ) → read_fault o.memory esp 4 ≡ r → IsClearOutcome area.added (executed o (insn.Ret drop) next flow.Return) → Meets area (return_steps drop) (GoesVia area stub) o t (executed o (insn.Ret drop) next flow.Return)
   return_by None e clear = subst (Meets area (return_steps drop) (GoesVia area stub) o t) (sym (return_done o next drop e)) (returns_via (returns_by drop refl e))
@@ -146,7 +147,7 @@ module _ (area : Area) (here drop next stub : ℕ) (o t : State) (at : AtPiece a
       read_fault_along area at.area_there.low t.memory o.memory t.memory (alongside area o t at.area_there at.beside at.bounds) esp 4 (subst (IsClearFault area.added) (sym e) added) ∙ e in
       let there : Breaks area (return_steps drop) o o t (Trap ReadFault f) =
       rest_breaks area o t at.area_there at.beside 0 (return_steps drop) t (Trap ReadFault f) (some_steps drop) (passes_none (KeepsRest area.scratch t) t)
-      (record { calls = refl; answers = refl; memory = keeps_self area.scratch t.memory }) at.beside.core (pop_stops f fault) in
+      (record { descs = refl; calls = refl; answers = refl; memory = keeps_self area.scratch t.memory }) at.beside.core (pop_stops f fault) in
       subst (Meets area (return_steps drop) (GoesVia area stub) o t) (sym stops) there
 
   -- a return's piece comes to the stub with its target, or stops where the return does

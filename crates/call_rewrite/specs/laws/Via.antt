@@ -16,8 +16,7 @@ use Rattle.x86_insn.specs.declared.insn.Src.TheVariants as src
 use Rattle.x86_insn.specs.declared.insn.Width.TheVariants.{D}
 use Rattle.x86_insn.specs.declared.registers.Core.{Core}
 use Rattle.x86_insn.specs.declared.ask.Ask.TheVariants.{Ends}
-use Rattle.x86_insn.specs.declared.stop.Kind.TheVariants.{ReadFault}
-use Rattle.x86_insn.specs.declared.stop.Stop.TheVariants.{Trap}
+use Rattle.x86_insn.specs.declared.stop.Stop.{Stop}
 use Rattle.x86_insn.specs.Ask.{got_src, got_at}
 use Rattle.x86_insn.specs.Meaning.{source_of}
 use Rattle.x86_insn.specs.Moves.{lowered}
@@ -28,10 +27,9 @@ use Rattle.x86_insn.specs.State.{State, Next, Stopped}
 use Rattle.x86_insn.specs.Step.{Ended, asks, turn, after_hop, executed, step}
 use Rattle.step_laws.specs.Passes.{Passes}
 use Rattle.step_laws.specs.Keeping.{KeepsRest}
-use Rattle.step_laws.specs.Beside.{ShowsSame, IsClearOutcome}
+use Rattle.step_laws.specs.Beside.{ShowsSame, IsClearStop, IsClearOutcome}
 use Rattle.step_laws.specs.Meeting.{Area, AtPiece, StandsIn, Reaches, Breaks, Meets, GoesVia}
 use Rattle.step_laws.specs.laws.Passing.{passes_weaker}
-use Rattle.step_laws.specs.laws.Cells.{IsClearFault}
 use Rattle.step_laws.specs.laws.Ends.{reg_fits}
 use Rattle.step_laws.specs.laws.Logs.{Log}
 use Rattle.step_laws.specs.laws.Spelled.{Spelled, with_number}
@@ -43,13 +41,13 @@ use Rattle.step_laws.specs.laws.Symbolic.{Setting, Code, Comes, memory_of, on, c
 use Rattle.step_laws.specs.laws.Resting.{rest_shows, rest_reaches, rest_breaks}
 use Rattle.call_rewrite.specs.Far.{LoadsOperand, keep_eax, take_eax, via_parts, via_len, call_parts, jump_via_parts, call_via_parts, jump_bytes}
 use Rattle.call_rewrite.specs.laws.Registers.{eax_set, eax_again}
-use Rattle.call_rewrite.specs.laws.Operands.{operand_value, operand_fault, operand_low, turn_loads, turn_load_faults, mov_loads, mov_load_faults}
-use Rattle.call_rewrite.specs.laws.Private.{own, begins, along, fault_along, value_along, code_of, via_arrives}
+use Rattle.call_rewrite.specs.laws.Operands.{operand_value, operand_stop, IsClearIfSome, operand_low, turn_loads, turn_load_stops, mov_loads, mov_load_stops}
+use Rattle.call_rewrite.specs.laws.Private.{own, begins, along, stop_along, value_along, code_of, via_arrives}
 use Rattle.call_rewrite.specs.laws.Pushing.{pushing, GoesKeeping, pushes_meet}
 use Rattle.call_rewrite.specs.laws.Returns.{jumps_on}
 
 abbrev at_address : ℕ → Mem
-at_address n = record { base = None; index = None; disp = n }
+at_address n = record { base = None; index = None; disp = n; gs = false }
 
 keep_spelled : (n : ℕ) → n < 2 ^ 32 → Spelled (keep_eax n) (insn.Mov D (rm.M (at_address n)) (src.R Eax))
 unfolding rows
@@ -62,21 +60,21 @@ take_spelled n low = with_number (0xA1 ∷ []) (λ k. insn.Mov D (rm.R Eax) (src
 -- ---- what the instructions come to
 
 module _ (o : State) (next : ℕ) (operand : Rm) where
-  jump_via_done : operand_fault o.memory o.core operand ≡ None → executed o (insn.JumpVia operand) next flow.JumpVia ≡ Next (record o { eip = operand_value o.memory o.core operand })
+  jump_via_done : operand_stop o.memory o.core operand ≡ None → executed o (insn.JumpVia operand) next flow.JumpVia ≡ Next (record o { eip = operand_value o.memory o.core operand })
   unfolding hop
   jump_via_done none = ap (after_hop o) (turn_loads o.memory o.core _ operand o.core None (operand_value o.memory o.core operand) none refl)
 
-  jump_via_fails : (f : ℕ) → operand_fault o.memory o.core operand ≡ Some f → executed o (insn.JumpVia operand) next flow.JumpVia ≡ Stopped (Trap ReadFault f) o
+  jump_via_fails : (why : Stop) → operand_stop o.memory o.core operand ≡ Some why → executed o (insn.JumpVia operand) next flow.JumpVia ≡ Stopped why o
   unfolding hop
-  jump_via_fails f some = ap (after_hop o) (turn_load_faults o.memory o.core _ operand f some)
+  jump_via_fails why some = ap (after_hop o) (turn_load_stops o.memory o.core _ operand why some)
 
-  call_via_done : operand_fault o.memory o.core operand ≡ None → executed o (insn.CallVia operand) next flow.CallVia ≡ pushing o next (operand_value o.memory o.core operand)
+  call_via_done : operand_stop o.memory o.core operand ≡ None → executed o (insn.CallVia operand) next flow.CallVia ≡ pushing o next (operand_value o.memory o.core operand)
   unfolding hop asks
   call_via_done none = ap (after_hop o) (turn_loads o.memory o.core _ operand (lowered 4 o.core) _ (operand_value o.memory o.core operand) none refl)
 
-  call_via_fails : (f : ℕ) → operand_fault o.memory o.core operand ≡ Some f → executed o (insn.CallVia operand) next flow.CallVia ≡ Stopped (Trap ReadFault f) o
+  call_via_fails : (why : Stop) → operand_stop o.memory o.core operand ≡ Some why → executed o (insn.CallVia operand) next flow.CallVia ≡ Stopped why o
   unfolding hop
-  call_via_fails f some = ap (after_hop o) (turn_load_faults o.memory o.core _ operand f some)
+  call_via_fails why some = ap (after_hop o) (turn_load_stops o.memory o.core _ operand why some)
 
 -- ---- the part that both pieces have
 
@@ -117,22 +115,22 @@ module _ (area : Area) (here : ℕ) (load : List ℕ) (operand : Rm) (tail : Lis
   abbrev loaded : Core
   loaded = set_reg D Eax to o.core
 
-  load_turns : operand_fault o.memory o.core operand ≡ None → turn (memory_of g kept) (round (insn.Mov D (rm.R Eax) (source_of operand)) o.core) ≡ Ended loaded (memory_of g kept) false
+  load_turns : operand_stop o.memory o.core operand ≡ None → turn (memory_of g kept) (round (insn.Mov D (rm.R Eax) (source_of operand)) t.descs o.core) ≡ Ended loaded (memory_of g kept) false
   load_turns none =
-      mov_loads (memory_of g kept) o.core operand (fault_along area o t at.area_there at.beside at.bounds kept o.core operand refl (subst (IsClearFault area.added) (sym none) tt) ∙ none)
+      mov_loads (memory_of g kept) t.descs o.core operand (stop_along area o t at.area_there at.beside at.bounds kept o.core operand refl (subst (IsClearIfSome area.added) (sym none) tt) ∙ none)
       ∙ ap (λ n. Ended (set_reg D Eax n o.core) (memory_of g kept) false) (value_along area o t at.area_there at.beside at.bounds kept o.core operand refl none)
 
   to_low : to < 2 ^ 32
   to_low = operand_low o.memory o.core operand at.bounds.memory at.bounds.core
 
-  keep_asks : round (insn.Mov D (rm.M (at_address (area.private + 4))) (src.R Eax)) loaded [] ≡ Ends loaded (Some ((0 + 0 + (area.private + 4)) % 2 ^ 32, bytes_of D to)) false
+  keep_asks : round (insn.Mov D (rm.M (at_address (area.private + 4))) (src.R Eax)) t.descs loaded [] ≡ Ends loaded (Some ((0 + 0 + 0 + (area.private + 4)) % 2 ^ 32, bytes_of D to)) false
   unfolding round got_src
-  keep_asks = ap (λ n. Ends loaded (Some ((0 + 0 + (area.private + 4)) % 2 ^ 32, bytes_of D n)) false) (eax_set o.core to at.bounds.core.eight)
+  keep_asks = ap (λ n. Ends loaded (Some ((0 + 0 + 0 + (area.private + 4)) % 2 ^ 32, bytes_of D n)) false) (eax_set o.core to at.bounds.core.eight)
 
   abbrev behind : ℕ
   behind = here + 5 + length load + 5 + 5
 
-  via_comes : {n : ℕ} {u : State} → operand_fault o.memory o.core operand ≡ None → (Code g behind tail → Comes g n o.core behind both u) → Comes g (suc (suc (suc (suc n)))) o.core here [] u
+  via_comes : {n : ℕ} {u : State} → operand_stop o.memory o.core operand ≡ None → (Code g behind tail → Comes g n o.core behind both u) → Comes g (suc (suc (suc (suc n)))) o.core here [] u
   unfolding word round got_src got_at
   via_comes {n} {u} none rest =
       keeps_first (λ code.
@@ -142,26 +140,26 @@ module _ (area : Area) (here : ℕ) (load : List ℕ) (operand : Rm) (tail : Lis
       (word_written g 0 eax refl (reg_fits o.core Eax at.bounds.core) refl refl) refl code (λ code.
       subst (λ (c : Core). Comes g n c behind both u) (sym (eax_again o.core to)) (rest code)))))
 
-  -- the load that faults, behind the first instruction
-  abbrev faulting : State
-  faulting = on g o.core (here + 5) kept
+  -- the load that stops, behind the first instruction
+  abbrev stopping : State
+  stopping = on g o.core (here + 5) kept
 
-  first_step : Passes (KeepsRest area.scratch t) 1 t faulting
-  first_step = subst (λ (s : State). Passes (KeepsRest area.scratch t) 1 s faulting) (begins area o t at.area_there at.beside at.bounds here at.place) (keeps_first (λ code. done g)).passes
+  first_step : Passes (KeepsRest area.scratch t) 1 t stopping
+  first_step = subst (λ (s : State). Passes (KeepsRest area.scratch t) 1 s stopping) (begins area o t at.area_there at.beside at.bounds here at.place) (keeps_first (λ code. done g)).passes
 
   load_there : Code g (here + 5) (load ∷ keep_eax (area.private + 4) ∷ take_eax area.private ∷ tail)
   unfolding word
   load_there = code_rest g code_there
 
-  load_stops : (f : ℕ) → operand_fault o.memory o.core operand ≡ Some f → area.added f ≡ false → step faulting ≡ Stopped (Trap ReadFault f) faulting
+  load_stops : (why : Stop) → operand_stop o.memory o.core operand ≡ Some why → IsClearStop area.added why → step stopping ≡ Stopped why stopping
   unfolding limit
-  load_stops f fault clear =
-      halts t o.core (here + 5) (memory_of g kept) (insn.Mov D (rm.R Eax) (source_of operand)) (length load) (fetched_on g kept (record { spells = loads.spells }) refl load_there) refl refl (Trap ReadFault f)
-      (mov_load_faults (memory_of g kept) o.core operand f (fault_along area o t at.area_there at.beside at.bounds kept o.core operand refl (subst (IsClearFault area.added) (sym fault) clear) ∙ fault))
+  load_stops why some clear =
+      halts t o.core (here + 5) (memory_of g kept) (insn.Mov D (rm.R Eax) (source_of operand)) (length load) (fetched_on g kept (record { spells = loads.spells }) refl load_there) refl refl refl why
+      (mov_load_stops (memory_of g kept) t.descs o.core operand why (stop_along area o t at.area_there at.beside at.bounds kept o.core operand refl (subst (IsClearIfSome area.added) (sym some) clear) ∙ some))
 
-  pub via_breaks : (n f : ℕ) → 1 < n → operand_fault o.memory o.core operand ≡ Some f → area.added f ≡ false → Breaks area n o o t (Trap ReadFault f)
-  via_breaks n f more fault clear =
-      rest_breaks area o t at.area_there at.beside 1 n faulting (Trap ReadFault f) more first_step (keeps_rest g o.core (here + 5) kept refl) refl (load_stops f fault clear)
+  pub via_breaks : (n : ℕ) (why : Stop) → 1 < n → operand_stop o.memory o.core operand ≡ Some why → IsClearStop area.added why → Breaks area n o o t why
+  via_breaks n why more some clear =
+      rest_breaks area o t at.area_there at.beside 1 n stopping why more first_step (keeps_rest g o.core (here + 5) kept refl) refl (load_stops why some clear)
 
 -- ---- jumps through an operand
 
@@ -175,30 +173,30 @@ module _ (area : Area) (here next stub : ℕ) (load : List ℕ) (operand : Rm) (
   abbrev goes : ℕ
   goes = operand_value o.memory o.core operand
 
-  jump_comes : operand_fault o.memory o.core operand ≡ None → Comes h 5 o.core here [] (on h o.core stub ((1, goes) ∷ (0, reg o.core Eax) ∷ []))
+  jump_comes : operand_stop o.memory o.core operand ≡ None → Comes h 5 o.core here [] (on h o.core stub ((1, goes) ∷ (0, reg o.core Eax) ∷ []))
   unfolding word
   jump_comes none =
       via_comes area here load operand jump_tail o t at loads none (λ code.
       jump h stub (jump_spelled (address_after here (via_len load)) stub) (jumps_on (here + 5 + length load + 5 + 5) here (via_len load) stub (omega arith) (omega (arith, code.stands.low)) stub_low) refl code (done h))
 
-  jump_via_by : (r : Option ℕ) → operand_fault o.memory o.core operand ≡ r → IsClearOutcome area.added (executed o (insn.JumpVia operand) next flow.JumpVia) → Meets area 5 (GoesVia area stub) o t (executed o (insn.JumpVia operand) next flow.JumpVia)
+  jump_via_by : (r : Option Stop) → operand_stop o.memory o.core operand ≡ r → IsClearOutcome area.added (executed o (insn.JumpVia operand) next flow.JumpVia) → Meets area 5 (GoesVia area stub) o t (executed o (insn.JumpVia operand) next flow.JumpVia)
   jump_via_by None e clear =
       let log : Log = (1, goes) ∷ (0, reg o.core Eax) ∷ [] in
       let last : State = on h o.core stub log in
       let there : Reaches area 5 (GoesVia area stub) o (record o { eip = goes }) t =
       rest_reaches area o t at.area_there at.beside 5 (GoesVia area stub) (record o { eip = goes }) last
       (subst (λ (s : State). Passes (KeepsRest area.scratch t) 5 s last) (begins area o t at.area_there at.beside at.bounds here at.place) (jump_comes e).passes)
-      (keeps_rest h o.core stub log refl) refl refl refl refl
+      (keeps_rest h o.core stub log refl) refl refl refl refl refl
       (via_arrives area o t at.area_there at.beside at.bounds o.core stub goes log refl refl) in
       subst (Meets area 5 (GoesVia area stub) o t) (sym (jump_via_done o next operand e)) there
-  jump_via_by (Some f) e clear =
-      let stops = jump_via_fails o next operand f e in
-      let added : area.added f ≡ false = subst (IsClearOutcome area.added) stops clear in
-      subst (Meets area 5 (GoesVia area stub) o t) (sym stops) (via_breaks area here load operand jump_tail o t at loads 5 f (omega arith) e added)
+  jump_via_by (Some why) e clear =
+      let stops = jump_via_fails o next operand why e in
+      let fine : IsClearStop area.added why = subst (IsClearOutcome area.added) stops clear in
+      subst (Meets area 5 (GoesVia area stub) o t) (sym stops) (via_breaks area here load operand jump_tail o t at loads 5 why (omega arith) e fine)
 
   -- a jump's piece comes to the stub with its target, or stops where the jump does
   pub jump_via_meets : IsClearOutcome area.added (executed o (insn.JumpVia operand) next flow.JumpVia) → Meets area 5 (GoesVia area stub) o t (executed o (insn.JumpVia operand) next flow.JumpVia)
-  jump_via_meets clear = jump_via_by (operand_fault o.memory o.core operand) refl clear
+  jump_via_meets clear = jump_via_by (operand_stop o.memory o.core operand) refl clear
 
 -- ---- calls through an operand
 
@@ -232,7 +230,7 @@ module _ (area : Area) (here next stub : ℕ) (load : List ℕ) (operand : Rm) (
   abbrev before : State
   before = on j o.core place called
 
-  before_comes : operand_fault o.memory o.core operand ≡ None → Passes (KeepsRest area.scratch t) 4 t before
+  before_comes : operand_stop o.memory o.core operand ≡ None → Passes (KeepsRest area.scratch t) 4 t before
   before_comes none = subst (λ (s : State). Passes (KeepsRest area.scratch t) 4 s before) (begins area o t at.area_there at.beside at.bounds here at.place) (via_comes area here load operand call_tail o t at loads none (λ code. done j)).passes
 
   before_along : Alongside area t.memory o.memory before.memory
@@ -259,7 +257,7 @@ module _ (area : Area) (here next stub : ℕ) (load : List ℕ) (operand : Rm) (
   before_at = record {
     area_there = keeps_area area t.memory before.memory before_along.keeps at.area_there;
     bounds = at.bounds;
-    beside = record { core = refl; calls = at.beside.calls; answers = at.beside.answers; memory = before_along.beside };
+    beside = record { core = refl; descs = at.beside.descs; calls = at.beside.calls; answers = at.beside.answers; memory = before_along.beside };
     place = refl;
     stands = keeps_stand area t.memory before.memory place (concat (call_parts next place stub)) before_along.keeps call_there;
   }
@@ -271,7 +269,7 @@ module _ (area : Area) (here next stub : ℕ) (load : List ℕ) (operand : Rm) (
       k.2 (address_after (area.private + 4) n) (at.area_there.added (address_after (area.private + 4) n) (subst (λ (b : ℕ). area.scratch b ≡ true) byte (at.area_there.private (4 + n) (omega arith))))) (omega (arith, at.area_there.fits)) in
       (k.1, same ∙ (via_arrives area o t at.area_there at.beside at.bounds o.core place calls called refl refl).1 ∙ ap word (sym k.0))
 
-  call_via_by : (r : Option ℕ) → operand_fault o.memory o.core operand ≡ r → IsClearOutcome area.added (executed o (insn.CallVia operand) next flow.CallVia) → Meets area 6 (GoesVia area stub) o t (executed o (insn.CallVia operand) next flow.CallVia)
+  call_via_by : (r : Option Stop) → operand_stop o.memory o.core operand ≡ r → IsClearOutcome area.added (executed o (insn.CallVia operand) next flow.CallVia) → Meets area 6 (GoesVia area stub) o t (executed o (insn.CallVia operand) next flow.CallVia)
   call_via_by None e clear =
       let is = call_via_done o next operand e in
       let pushed = pushes_meet area place next stub calls o before before_at next_low stub_low (subst (IsClearOutcome area.added) is clear) in
@@ -279,11 +277,11 @@ module _ (area : Area) (here next stub : ℕ) (load : List ℕ) (operand : Rm) (
       subst (Meets area 6 (GoesVia area stub) o t) (sym is)
       (meets_after area o t 4 2 (GoesVia area stub) before (pushing o next calls) quiet before_along.keeps
       (meets_wider area o before 2 (GoesKeeping area before calls stub) (GoesVia area stub) (pushing o next calls) keeps_target pushed))
-  call_via_by (Some f) e clear =
-      let stops = call_via_fails o next operand f e in
-      let added : area.added f ≡ false = subst (IsClearOutcome area.added) stops clear in
-      subst (Meets area 6 (GoesVia area stub) o t) (sym stops) (via_breaks area here load operand call_tail o t at loads 6 f (omega arith) e added)
+  call_via_by (Some why) e clear =
+      let stops = call_via_fails o next operand why e in
+      let fine : IsClearStop area.added why = subst (IsClearOutcome area.added) stops clear in
+      subst (Meets area 6 (GoesVia area stub) o t) (sym stops) (via_breaks area here load operand call_tail o t at loads 6 why (omega arith) e fine)
 
   -- a call's piece comes to the stub with its target, or stops where the call does
   pub call_via_meets : IsClearOutcome area.added (executed o (insn.CallVia operand) next flow.CallVia) → Meets area 6 (GoesVia area stub) o t (executed o (insn.CallVia operand) next flow.CallVia)
-  call_via_meets clear = call_via_by (operand_fault o.memory o.core operand) refl clear
+  call_via_meets clear = call_via_by (operand_stop o.memory o.core operand) refl clear
