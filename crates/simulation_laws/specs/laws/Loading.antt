@@ -17,7 +17,7 @@ jump_loads s src e = loads_operand s src (inl (spelled_spells s _ e))
 pub call_loads : (s : List ℕ) (src : Rm) → spelled s ≡ Some (insn.CallVia src) → LoadsOperand src (load_bytes src)
 call_loads s src e = loads_operand s src (inr (spelled_spells s _ e))
 
-pub few_load : (s : List ℕ) (i : Insn) → spelled s ≡ Some i → length (load_of i) ≤ 7
+pub few_load : (s : List ℕ) (i : Insn) → spelled s ≡ Some i → length (load_of i) ≤ 8
 few_load s i e = load_short s i (spelled_spells s i e)
 
 -- ---- lengths
@@ -28,7 +28,7 @@ near_most (insn.Branch cond rel) here to = omega (arith, branch_len cond here to
 near_most (insn.Loop kind rel) here to = omega (arith, count_len kind here to)
 near_most _ here to = omega arith
 
-size_most : (load : List ℕ) (i : Insn) → length load ≤ 7 → far_size load i ≤ 32
+size_most : (load : List ℕ) (i : Insn) → length load ≤ 8 → far_size load i ≤ 33
 size_most load (insn.Call rel) le = omega arith
 size_most load (insn.CallVia src) le = omega (arith, le)
 size_most load (insn.JumpVia src) le = omega (arith, le)
@@ -36,5 +36,5 @@ size_most load (insn.Ret zero) le = omega arith
 size_most load (insn.Ret (suc n)) le = omega arith
 size_most load _ le = omega arith
 
-pub far_most : (load : List ℕ) (i : Insn) (next here goal p : ℕ) → length load ≤ 7 → length (far_bytes load i next here goal p) ≤ 32
+pub far_most : (load : List ℕ) (i : Insn) (next here goal p : ℕ) → length load ≤ 8 → length (far_bytes load i next here goal p) ≤ 33
 far_most load i next here goal p le = omega (arith, far_sized load i next here goal p, size_most load i le)
