@@ -48,18 +48,3 @@ pub fn has_pair(pairs: &[(u32, u32)], group: Group) -> bool
     };
     pair.0 - group.lo < group.len
 }
-
-/// The second part of an address's pair.
-pub fn second(pairs: &[(u32, u32)], address: u32) -> Option<u32>
-    requires { Ascend 0 (firsts pairs.now) }
-    ensures { result ≡ second_of pairs.now address }
-{
-    let Some((pair, _)) = pairs_from(pairs, address).split_first() else {
-        return None;
-    };
-    if pair.0 == address {
-        Some(pair.1)
-    } else {
-        None
-    }
-}

@@ -10,7 +10,8 @@ ghost use Rattle.map_table.specs.Paged.{table_bytes, table_size, places, places_
 
 use crate::group::{GROUP_LEN, Group, group_at, group_count, groups};
 use crate::page::{PAGE_LEN, put_directories, put_pages, put_zeros};
-use crate::pairs::{has_site, second};
+use crate::pairs::has_site;
+use crate::reading::word_for;
 use elf32_read::Run;
 use mv_base::{Bytes, NoMemory};
 use std::alloc::Global;
@@ -65,11 +66,15 @@ impl<'a> Table<'a> {
         })
     }
 
-    /// The new address of an address; `None` exactly where it has no pair.
+    /// The new address of an address, read from its page; `None` exactly where it has no pair.
     pub fn entry(&self, address: u32) -> Option<u32>
         ensures { result ≡ second_of self.now.pairs address }
     {
-        second(self.pairs, address)
+        let (dirs, bytes) = (self.dirs.as_slice(), self.bytes.as_slice());
+        match word_for(self.runs, self.pairs, self.lo, dirs, bytes, address) {
+            0 => None,
+            entry => Some(entry),
+        }
     }
 
     /// The addresses of the directories, one for each run.
