@@ -14,7 +14,7 @@ use Rattle.lookup_stub.specs.Stub.{stub}
 use Rattle.lookup_stub.specs.laws.StubBytes.{stub_length}
 use Rattle.counter_hooks.specs.declared.rules.Rule.{Rule}
 use Rattle.superset.specs.declared.site.Site.{Site}
-use Rattle.sequence_join.specs.declared.chain.Chain.{Chain}
+use Rattle.sequence_join.specs.Chains.{Chain}
 use Rattle.simulation_laws.specs.declared.anchors.Anchors.{Anchors}
 use Rattle.image_layout.specs.Layout.{stub_len, code_len, table_len, table_from, pairs_from, pairs, moved, run_places, anchors, code, plan}
 use Rattle.image_layout.specs.Parts.{parts, parts_len, entry}

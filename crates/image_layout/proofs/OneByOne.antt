@@ -29,10 +29,5 @@ places_step rs lo k r dirs len dir now new lt e dirs_are len_is dir_is h p =
 pub length-dirs : (rs : List Run) (lo : ℕ) (dirs : List ℕ) → dirs ≡ map (λ q. q.dir) (paged.places rs lo) → length dirs ≡ length rs
 length-dirs rs lo dirs e = ap length e ∙ length-map (paged.places rs lo) (λ q. q.dir) ∙ length-run_places (lo + 4096) rs
 
--- one more address of the sites
-pub addresses_step : (ss : List Site) (k : ℕ) (d : Site) (now new : List ℕ) → k < length ss → now ≡ map site_address (take k ss) → new ≡ now ++ (get_or ss k d).at ∷ [] → new ≡ map site_address (take (k + 1) ss)
-addresses_step ss k d now new lt h p =
-    p ∙ ap (λ (t : List ℕ). t ++ (get_or ss k d).at ∷ []) h ∙ sym (ap (map site_address) (take_more ss k d lt) ∙ map-append site_address (take k ss) (get_or ss k d ∷ []))
-
 pub places_done : (rs : List Run) (lo k : ℕ) (now : List RunPlace) → length rs ≤ k → now ≡ take k (paged.places rs lo) → now ≡ paged.places rs lo
 places_done rs lo k now le h = h ∙ take_all k (paged.places rs lo) (omega (arith, le, length-run_places (lo + 4096) rs))

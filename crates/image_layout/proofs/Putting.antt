@@ -1,9 +1,10 @@
 -- Code part by part: what is written, and what is still to be written.
-use Rattle.std.proofs.Common.{◌≡◌, ℕ, ◌+◌, ◌*◌, ◌<◌, ◌≤◌, cond, List, [], ◌∷◌, ◌++◌, length, get_or, drop, map, Option, Some, None, refl, sym, ap, ◌∙◌, subst, arith}
+use Rattle.std.proofs.Common.{◌≡◌, ℕ, ◌+◌, ◌*◌, ◌<◌, ◌≤◌, true, cond, List, [], ◌∷◌, ◌++◌, length, get_or, drop, map, Option, Some, None, refl, sym, ap, ◌∙◌, subst, arith}
 use Rattle.std.specs.Prelude.{IfSome, slice_get, slice_index}
 use Rattle.std.proofs.lemmas.List.{length-append, append_assoc, append-nil}
 use Rattle.std.proofs.lemmas.List.Concat.{flat_map-append}
 use Rattle.std.proofs.lemmas.Option.{slice_get-get_or}
+use Rattle.mv_base.specs.Memory.{exec_bytes}
 use Rattle.x86_insn.specs.declared.insn.Flow.{Flow}
 use Rattle.x86_insn.specs.declared.insn.Flow.TheVariants as flow
 use Rattle.branch_lengthen.specs.Near.{near_bytes}
@@ -12,12 +13,12 @@ use Rattle.map_table.specs.Pairs.{Ascend}
 use Rattle.counter_hooks.specs.declared.rules.Rule.{Rule}
 use Rattle.counter_hooks.specs.Rules.{picked}
 use Rattle.superset.specs.declared.site.Site.{Site}
-use Rattle.sequence_join.specs.declared.chain.Chain.{Chain}
+use Rattle.sequence_join.specs.Chains.{Chain}
 use Rattle.simulation_laws.specs.declared.anchors.Anchors.{Anchors}
-use Rattle.simulation_laws.specs.Pieces.{successor, target, piece_of, counter_code, counted_piece}
+use Rattle.simulation_laws.specs.Pieces.{successor, target, piece, piece_of, counter_code, counted_piece}
 use Rattle.image_layout.specs.Parts.{Part, Piece, Join, join_parts, link_parts, chain_parts, parts, part_len, parts_len, placed}
 use Rattle.image_layout.specs.Measuring.{AreRanks}
-use Rattle.image_layout.specs.Pieces.{is_direct, counters, code_lens, site_code, part_bytes, bytes_of}
+use Rattle.image_layout.specs.Pieces.{is_direct, is_own, counters, code_lens, site_code, part_bytes, bytes_of}
 use Rattle.image_layout.specs.Sites.{AreWhole}
 use Rattle.image_layout.specs.laws.Placing.{placed-append, length-code_at}
 use Rattle.image_layout.specs.laws.SiteFacts.{site_address}
@@ -101,6 +102,35 @@ piece_by flow.JumpVia an move code here s to e = refl
 piece_by flow.CallVia an move code here s to e = refl
 piece_by flow.Return an move code here s to e = refl
 
+-- a piece that is the instruction's own bytes
+pub own_piece : (f : Flow) (an : Anchors) (move : ℕ → ℕ) (code : ℕ → Option ℕ) (here : ℕ) (s : Site) → is_own f ≡ true → exec_bytes code s.at s.len ≡ piece_of f an move code here s
+own_piece flow.Plain an move code here s e = refl
+own_piece flow.System an move code here s e = refl
+own_piece flow.Trap an move code here s e = refl
+own_piece flow.Jump an move code here s e = absurd cc
+own_piece flow.Branch an move code here s e = absurd cc
+own_piece flow.Count an move code here s e = absurd cc
+own_piece flow.Call an move code here s e = absurd cc
+own_piece flow.JumpVia an move code here s e = absurd cc
+own_piece flow.CallVia an move code here s e = absurd cc
+own_piece flow.Return an move code here s e = absurd cc
+
+-- a counter and a piece, one behind the other
+pub put_counted : (an : Anchors) (move : ℕ → ℕ) (code : ℕ → Option ℕ) (place : Option ℕ) (k here n : ℕ) (s : Site) (now front mid new : List ℕ) → place ≡ Some k → front ≡ counter_code an (Some k) → n ≡ length front → mid ≡ now ++ front → new ≡ mid ++ piece an move code (here + n) s → new ≡ now ++ counted_piece an move code place here s
+put_counted an move code place k here n s now front mid new place_is front_is n_is mid_is new_is =
+    let c = counter_code an (Some k) in
+    let at : here + n ≡ here + length c = omega (arith, n_is, ap (λ (l : List ℕ). length l) front_is) in
+    new_is
+    ∙ (ap (λ m. mid ++ piece an move code m s) at
+    ∙ (ap (λ (l : List ℕ). l ++ piece an move code (here + length c) s) (mid_is ∙ ap (λ (l : List ℕ). now ++ l) front_is)
+    ∙ (append_assoc now c (piece an move code (here + length c) s)
+    ∙ ap (λ (o : Option ℕ). now ++ counted_piece an move code o here s) (sym place_is))))
+
+pub put_alone : (an : Anchors) (move : ℕ → ℕ) (code : ℕ → Option ℕ) (place : Option ℕ) (here : ℕ) (s : Site) (now new : List ℕ) → place ≡ None → new ≡ now ++ piece an move code here s → new ≡ now ++ counted_piece an move code place here s
+put_alone an move code place here s now new place_is new_is =
+    let at : here ≡ here + 0 = omega arith in
+    new_is ∙ (ap (λ m. now ++ piece an move code m s) at ∙ ap (λ (o : Option ℕ). now ++ counted_piece an move code o here s) (sym place_is))
+
 pub there_is : (P : Site → Type 0) (ss : List Site) (k : ℕ) (d : Site) → k < length ss → IfSome (slice_get ss k) P → P (get_or ss k d)
 there_is P ss k d lt h = subst (λ (o : Option Site). IfSome o P) (slice_get-get_or ss k d lt) h
 
@@ -123,11 +153,14 @@ module _ (rule : Rule) (an : Anchors) (ss : List Site) (asc : Ascend 0 (map site
     pub counter_low : length (counter_code an place) ≤ slice_index (code_lens rule ss) k
     counter_low = omega (arith, ap (λ (o : Option ℕ). length (counter_code an o)) place_there, counter_sized rule an 0 ss k s asc there, lens_at rule ss k s there)
 
-    pub site_piece : (move : ℕ → ℕ) (code : ℕ → Option ℕ) (here : ℕ) (p : List ℕ) → p ≡ counted_piece an move code place here s → p ≡ part_bytes an move code (counters rule an ss) ss here (Piece k)
+    site_piece : (move : ℕ → ℕ) (code : ℕ → Option ℕ) (here : ℕ) (p : List ℕ) → p ≡ counted_piece an move code place here s → p ≡ part_bytes an move code (counters rule an ss) ss here (Piece k)
     site_piece move code here p is =
         is
         ∙ (ap (λ (o : Option ℕ). counted_piece an move code o here s) place_there
         ∙ sym (ap (site_code an move code (counters rule an ss) here) there))
+
+    pub site_bytes : (move : ℕ → ℕ) (code : ℕ → Option ℕ) (here : ℕ) → counted_piece an move code place here s ≡ part_bytes an move code (counters rule an ss) ss here (Piece k)
+    site_bytes move code here = site_piece move code here (counted_piece an move code place here s) refl
 
 -- parts have their lengths where sites ascend and are whole
 pub sized_parts : (rule : Rule) (an : Anchors) (move : ℕ → ℕ) (code : ℕ → Option ℕ) (ss : List Site) → AreWhole code ss → Ascend 0 (map site_address ss) → (here : ℕ) (p : Part) → length (part_bytes an move code (counters rule an ss) ss here p) ≡ part_len (code_lens rule ss) p

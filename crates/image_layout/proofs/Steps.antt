@@ -1,12 +1,12 @@
 -- Chains link by link and one by one: how long they are, and where their parts stand.
-use Rattle.std.proofs.Common.{◌≡◌, ℕ, zero, suc, ◌+◌, ◌<◌, ◌≤◌, Bool, cond, eqb, List, [], ◌∷◌, ◌++◌, length, get_or, set, take, drop, Option, Some, None, refl, sym, ap, ◌∙◌, subst, inl, inr, arith}
+use Rattle.std.proofs.Common.{◌≡◌, ℕ, zero, suc, ◌+◌, ◌<◌, ◌≤◌, Bool, cond, eqb, List, [], ◌∷◌, ◌++◌, length, get_or, set, map, take, drop, Option, Some, None, refl, sym, ap, ◌∙◌, subst, inl, inr, arith}
 use Rattle.std.specs.Prelude.{slice_index}
 use Rattle.std.proofs.lemmas.Bool.{eq-eqb, ne_eqb, cases_eq, cases_lt}
-use Rattle.std.proofs.lemmas.List.{append-nil, drop_more, drop_all, get_or-set_same, get_or-set_other, take_more, take_all, map_more, get_or_default, get_or_append_left, get_or-append-add}
+use Rattle.std.proofs.lemmas.List.{append-nil, drop_more, drop_all, get_or-set_same, get_or-set_other, take_more, take_all, map_more, get_or_default, get_or_append_left, get_or-append-add, get_or-map, length-map}
 use Rattle.counter_hooks.specs.declared.rules.Rule.{Rule}
 use Rattle.counter_hooks.specs.Rules.{picked}
 use Rattle.superset.specs.declared.site.Site.{Site}
-use Rattle.sequence_join.specs.declared.chain.Chain.{Chain}
+use Rattle.sequence_join.specs.Chains.{Chain}
 use Rattle.image_layout.specs.Parts.{Part, Piece, join_parts, link_parts, chain_parts, parts, parts_len, placed, place_or}
 use Rattle.image_layout.specs.Pieces.{counted, site_len, code_lens}
 use Rattle.image_layout.specs.Layout.{pairs_by}
@@ -176,9 +176,18 @@ pairs_step place ss k at s now new lt e f h p =
 pub pairs_done : (place : ℕ → ℕ) (ss : List Site) (k : ℕ) (now : List (ℕ × ℕ)) → length ss ≤ k → now ≡ take k (pairs_by place 0 ss) → now ≡ pairs_by place 0 ss
 pairs_done place ss k now le h = h ∙ take_all k (pairs_by place 0 ss) (omega (arith, le, length-pairs place 0 ss))
 
--- the same at an element that is read with a default
-pub pairs_step_at : (place : ℕ → ℕ) (ss : List Site) (k at : ℕ) (d : Site) (now new : List (ℕ × ℕ)) → k < length ss → at ≡ place k → now ≡ take k (pairs_by place 0 ss) → new ≡ now ++ ((get_or ss k d).at, at) ∷ [] → new ≡ take (k + 1) (pairs_by place 0 ss)
-pairs_step_at place ss k at d now new lt f h p = pairs_step place ss k at (get_or ss k d) now new lt (get_or_default ss k d (get_or ss k d) lt) f h p
+pub length-addresses : (ss : List Site) (as' : List ℕ) → as' ≡ map site_address ss → length as' ≡ length ss
+length-addresses ss as' e = ap length e ∙ length-map ss site_address
+
+-- the same, where the site's address is read from a list of all addresses
+pub pairs_step_from : (place : ℕ → ℕ) (ss : List Site) (as' : List ℕ) (k a at : ℕ) (now new : List (ℕ × ℕ)) → as' ≡ map site_address ss → k < length as' → a ≡ get_or as' k 0 → at ≡ place k → now ≡ take k (pairs_by place 0 ss) → new ≡ now ++ (a, at) ∷ [] → new ≡ take (k + 1) (pairs_by place 0 ss)
+pairs_step_from place [] as' k a at now new e lt a_is f h p = absurd (omega (arith, lt, length-addresses [] as' e))
+pairs_step_from place (q ∷ qs) as' k a at now new e lt a_is f h p =
+    let ss : List Site = q ∷ qs in
+    let below : k < length ss = omega (arith, lt, length-addresses ss as' e) in
+    let s : Site = get_or ss k q in
+    let a_at : a ≡ s.at = a_is ∙ (ap (λ (l : List ℕ). get_or l k 0) e ∙ get_or-map site_address ss k q 0 below) in
+    pairs_step place ss k at s now new below (get_or_default ss k q s below) f h (p ∙ ap (λ n. now ++ (n, at) ∷ []) a_at)
 
 -- ---- no chain is left
 

@@ -11,7 +11,7 @@ use Rattle.map_table.specs.Pairs.{entry_in}
 use Rattle.counter_hooks.specs.declared.rules.Rule.{Rule}
 use Rattle.superset.specs.declared.site.Site.{Site}
 use Rattle.superset.specs.Targets.{successor}
-use Rattle.sequence_join.specs.declared.chain.Chain.{Chain}
+use Rattle.sequence_join.specs.Chains.{Chain}
 use Rattle.simulation_laws.specs.declared.anchors.Anchors.{Anchors}
 use Rattle.simulation_laws.specs.Pieces.{counted_piece}
 use Rattle.image_layout.specs.Layout.{moved, pairs, anchors}

@@ -5,7 +5,7 @@ use Rattle.elf32_read.specs.declared.run.Run.{Run}
 use Rattle.elf32_write.specs.declared.plan.Plan.{Plan}
 use Rattle.counter_hooks.specs.declared.rules.Rule.{Rule}
 use Rattle.superset.specs.declared.site.Site.{Site}
-use Rattle.sequence_join.specs.declared.chain.Chain.{Chain}
+use Rattle.sequence_join.specs.Chains.{Chain}
 use Rattle.image_layout.specs.declared.layout.LayFault.{LayFault}
 use Rattle.image_layout.specs.declared.layout.LayFault.TheVariants.{NoRoom, NoMemory}
 use Rattle.image_layout.specs.Fit.{first_fit}

@@ -13,7 +13,7 @@ use Rattle.map_table.specs.Paged.{table_bytes, table_size, places}
 use Rattle.lookup_stub.specs.Stub.{stub, stub_size}
 use Rattle.counter_hooks.specs.declared.rules.Rule.{Rule}
 use Rattle.superset.specs.declared.site.Site.{Site}
-use Rattle.sequence_join.specs.declared.chain.Chain.{Chain}
+use Rattle.sequence_join.specs.Chains.{Chain}
 use Rattle.simulation_laws.specs.declared.anchors.Anchors.{Anchors}
 use Rattle.image_layout.specs.Parts.{parts, parts_len, entry}
 use Rattle.image_layout.specs.Pieces.{counted, code_lens, chain_code}

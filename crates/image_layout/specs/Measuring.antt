@@ -1,5 +1,5 @@
 -- What is known of sites before they have places. This project's own.
-use Rattle.std.specs.Prelude.{◌≡◌, ℕ, ◌<◌, List, length, slice_index}
+use Rattle.std.specs.Prelude.{◌≡◌, ℕ, ◌<◌, List, length, map, slice_index}
 use Rattle.counter_hooks.specs.declared.rules.Rule.{Rule}
 use Rattle.superset.specs.declared.site.Site.{Site}
 use Rattle.image_layout.specs.declared.places.Measured.{Measured}
@@ -10,8 +10,9 @@ pub record AreRanks (rule : Rule) (ss : List Site) (ranks : List ℕ) : Type 0 w
   pub count : length ranks ≡ length ss
   pub are : (k : ℕ) → k < length ss → slice_index ranks k ≡ rank rule ss k
 
--- the lengths of the sites' code, their ranks, and the addresses of those that the rule picks
+-- the addresses of the sites, the lengths of their code, their ranks, and the addresses of those that the rule picks
 pub record IsMeasured (rule : Rule) (ss : List Site) (m : Measured) : Type 0 where
+  pub addresses : m.addresses ≡ map (λ s. s.at) ss
   pub lens : m.lens ≡ code_lens rule ss
   pub ranks : AreRanks rule ss m.ranks
   pub counted : m.counted ≡ counted rule ss

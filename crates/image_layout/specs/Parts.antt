@@ -2,7 +2,7 @@
 -- say where each stands. This project's own.
 use Rattle.std.specs.Prelude.{ℕ, ◌+◌, Bool, false, List, [], ◌∷◌, ◌++◌, map, Option, Some, None, slice_index, ◌==◌, if◌then◌else◌}
 use Rattle.std.specs.List.{flat_map}
-use Rattle.sequence_join.specs.declared.chain.Chain.{Chain}
+use Rattle.sequence_join.specs.Chains.{Chain}
 
 -- the piece of the site of an index, or a join to where an address now is
 pub data Part : Type 0 where

@@ -11,7 +11,7 @@ use Rattle.call_rewrite.specs.Far.{far_size, load_of}
 use Rattle.counter_hooks.specs.declared.rules.Rule.{Rule}
 use Rattle.counter_hooks.specs.Rules.{picked}
 use Rattle.superset.specs.declared.site.Site.{Site}
-use Rattle.sequence_join.specs.declared.chain.Chain.{Chain}
+use Rattle.sequence_join.specs.Chains.{Chain}
 use Rattle.simulation_laws.specs.declared.anchors.Anchors.{Anchors}
 use Rattle.simulation_laws.specs.Pieces.{counter_in, counted_piece}
 use Rattle.image_layout.specs.Parts.{Part, Piece, Join, parts, placed}
@@ -44,6 +44,19 @@ is_direct Trap = false
 is_direct JumpVia = false
 is_direct CallVia = false
 is_direct Return = false
+
+-- a flow whose piece is the instruction's own bytes
+abbrev pub is_own : Flow → Bool
+is_own Plain = true
+is_own System = true
+is_own Trap = true
+is_own Jump = false
+is_own Branch = false
+is_own Count = false
+is_own Call = false
+is_own JumpVia = false
+is_own CallVia = false
+is_own Return = false
 
 -- ---- counters
 

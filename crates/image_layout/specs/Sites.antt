@@ -4,7 +4,7 @@ use Rattle.std.specs.List.{All, AllByRecursion}
 use Rattle.mv_base.specs.Memory.{exec_bytes}
 use Rattle.call_rewrite.specs.Far.{load_of}
 use Rattle.superset.specs.declared.site.Site.{Site}
-use Rattle.sequence_join.specs.declared.chain.Chain.{Chain}
+use Rattle.sequence_join.specs.Chains.{Chain}
 
 -- a site's instruction has at most 15 bytes, and its operand is loaded by at most 7
 pub record IsShort (s : Site) : Type 0 where

@@ -13,16 +13,16 @@ ghost use Rattle.simulation_laws.specs.Pieces.{piece as piece_of, counter_code, 
 ghost use Rattle.image_layout.specs.Layout.{moved as moved_of};
 ghost use Rattle.image_layout.specs.Measuring.{AreRanks};
 ghost use Rattle.image_layout.specs.Parts.{chain_parts, parts, parts_len, placed};
-ghost use Rattle.image_layout.specs.Pieces.{is_direct, piece_len, counters, code_lens, part_bytes, bytes_of, chain_code};
+ghost use Rattle.image_layout.specs.Pieces.{is_direct, is_own, counters, code_lens, part_bytes, bytes_of, chain_code};
 ghost use Rattle.image_layout.specs.Sites.{AreShort, AreWhole, AreBelow, IsShort, IsWhole};
 
 use crate::layout::moved;
-use branch_lengthen::join_piece;
+use branch_lengthen::pieces::near_jump;
 use counter_hooks::{Hooks, Question, counter_piece};
 use elf32_read::Run;
 use map_table::Table;
 use mv_base::NoMemory;
-use sequence_join::Chain;
+use sequence_join::{Chain, ChainList};
 use simulation_laws::{Anchors, piece_bytes};
 use std::alloc::Global;
 use superset::{Piece, Site, target};
@@ -45,7 +45,7 @@ pub fn put_chains<F: Question>(
     runs: &[Run],
     table: &Table<'_>,
     sites: &[Site],
-    chains: &[Chain],
+    chains: &ChainList,
     hooks: &Hooks<F>,
     ranks: &[u32],
     anchors: Anchors,
@@ -64,8 +64,9 @@ pub fn put_chains<F: Question>(
         ++ chain_code hooks.now anchors (moved_of table.now.pairs) (code_of runs.now) sites.now
         (anchors.stub + length code.old.items) chains.now) }
 {
-    for chain in chains {
-        put_chain(runs, table, sites, chain, hooks, ranks, anchors, code)?;
+    for number in 0..chains.len() {
+        let chain = chains.get(number);
+        put_chain(runs, table, sites, &chain, hooks, ranks, anchors, code)?;
     }
     Ok(())
 }
@@ -75,7 +76,7 @@ fn put_chain<F: Question>(
     runs: &[Run],
     table: &Table<'_>,
     sites: &[Site],
-    chain: &Chain,
+    chain: &Chain<'_>,
     hooks: &Hooks<F>,
     ranks: &[u32],
     anchors: Anchors,
@@ -96,15 +97,14 @@ fn put_chain<F: Question>(
         (placed (code_lens hooks.now sites.now) (anchors.stub + length code.old.items)
         (chain_parts chain.now))) }
 {
-    for link in chain.links.as_slice() {
+    for link in chain.links() {
         let index = *link as usize;
         let site = &sites[index];
         let place = counter_place(hooks, site, ranks[index], anchors.private);
         let here = anchors.stub + code.len() as u32;
-        let piece = site_code(runs, table, site, place, anchors, here);
-        code.extend_from_slice(piece.as_slice())?;
+        put_site(runs, table, site, place, anchors, here, code)?;
     }
-    match chain.next {
+    match chain.next() {
         Some(next) => put_join(table, next, anchors, code),
         None => Ok(()),
     }
@@ -134,47 +134,71 @@ fn put_join(
         ++ jump_bytes (anchors.stub + length code.old.items) (moved_of table.now.pairs to)) }
 {
     let here = anchors.stub + code.len() as u32;
-    code.extend_from_slice(join_piece(here, moved(table, to)).as_slice())?;
+    code.extend_from_slice(&near_jump(here, moved(table, to)))?;
     Ok(())
 }
 
-/// The code of a site that stands at `here`: its counter, where it has one at `place`, and its piece.
-fn site_code(
+/// Appends the code of a site that stands at `here`: its counter, where it has one at `place`, and its piece.
+fn put_site(
     runs: &[Run],
     table: &Table<'_>,
     site: &Site,
     place: Option<u32>,
     anchors: Anchors,
     here: u32,
-) -> Piece
+    code: &mut Vec<u8>,
+) -> Result<(), NoMemory>
     requires apart { AreApart 0 runs.now }
     requires short { IsShort site.now }
     requires whole { IsWhole (code_of runs.now) site.now }
     requires room { here + length (counter_code anchors place) < 2 ^ 32 }
-    ensures { result ≡ counted_piece anchors (moved_of table.now.pairs) (code_of runs.now) place here
-        site.now }
+    ensures { OnOk result (code.new.items ≡ code.old.items
+        ++ counted_piece anchors (moved_of table.now.pairs) (code_of runs.now) place here site.now) }
 {
     match place {
         Some(counter) => {
             let front = counter_piece(anchors.private, counter);
-            let piece = piece(runs, table, site, anchors, here + front.len() as u32);
-            front.and(piece.as_slice())
+            code.extend_from_slice(front.as_slice())?;
+            put_piece(runs, table, site, anchors, here + front.len() as u32, code)
         }
-        None => piece(runs, table, site, anchors, here),
+        None => put_piece(runs, table, site, anchors, here, code),
     }
 }
 
-/// The piece of a site that stands at `here`.
-fn piece(runs: &[Run], table: &Table<'_>, site: &Site, anchors: Anchors, here: u32) -> Piece
+/// Appends the piece of a site that stands at `here`. The bytes of an instruction that is copied go straight to the code.
+fn put_piece(
+    runs: &[Run],
+    table: &Table<'_>,
+    site: &Site,
+    anchors: Anchors,
+    here: u32,
+    code: &mut Vec<u8>,
+) -> Result<(), NoMemory>
     requires apart { AreApart 0 runs.now }
     requires short { IsShort site.now }
     requires whole { IsWhole (code_of runs.now) site.now }
-    ensures bytes { result
-        ≡ piece_of anchors (moved_of table.now.pairs) (code_of runs.now) here site.now }
-    ensures size { length result ≡ piece_len site.now }
+    ensures { OnOk result (code.new.items ≡ code.old.items
+        ++ piece_of anchors (moved_of table.now.pairs) (code_of runs.now) here site.now) }
 {
     let own = bytes_from(runs, site.at, usize::from(site.len));
-    piece_bytes(own, site, anchors, here, target_place(table, site))
+    if is_copied(site) {
+        code.extend_from_slice(own)?;
+        return Ok(());
+    }
+    let piece = piece_bytes(own, site, anchors, here, target_place(table, site));
+    code.extend_from_slice(piece.as_slice())?;
+    Ok(())
+}
+
+/// Whether the piece of a site is its instruction's own bytes.
+fn is_copied(site: &Site) -> bool
+    ensures { result ≡ is_own (flow_of site.now.insn) }
+{
+    match site.insn.next_kind() {
+        Flow::Plain | Flow::System | Flow::Trap => true,
+        Flow::Jump | Flow::Branch | Flow::Count | Flow::Call => false,
+        Flow::JumpVia | Flow::CallVia | Flow::Return => false,
+    }
 }
 
 /// Where the target of a direct transfer now is; 0 for any other instruction, for which no address is looked up.

@@ -28,7 +28,7 @@ use elf32_write::{Form, Plan, RunPlaces};
 use lookup_stub::{stub, stub_len};
 use map_table::{Table, table_len};
 use mv_base::{Bytes, NoMemory, RunPlace};
-use sequence_join::Chain;
+use sequence_join::ChainList;
 use simulation_laws::Anchors;
 use std::alloc::Global;
 use superset::Site;
@@ -66,7 +66,7 @@ impl From<NoMemory> for LayFault {
 /// What is added to a file: the block at the lowest place that has room, with the stub, the chains behind it, the table of
 /// form 2, the list of the sites that the hooks count, and the private area with their counters. `admit` takes the image,
 /// and the runs, sites and chains are those of its file. It asks the hooks twice a site: once for lengths, once for
-/// bytes. The work is linear in the sites, but for the look-up of an address in the table.
+/// bytes. The work is linear in the sites; an address is looked up in the table by a step for each run.
 ///
 /// # Errors
 ///
@@ -76,7 +76,7 @@ pub fn lay<F: Question>(
     image: &Image,
     runs: &[Run],
     sites: &[Site],
-    chains: &[Chain],
+    chains: &ChainList,
     hooks: &Hooks<F>,
 ) -> Result<Plan, LayFault>
     requires apart { ArePagesApart 0 image.now.segments }
@@ -90,14 +90,17 @@ pub fn lay<F: Question>(
     ensures ascends { IfOk result (λ plan. Ascend plan.counted) }
 {
     let measured = measure(alloc, sites, hooks)?;
-    let code_len = stub_len(runs.len()) as u64 + chains_len(chains, measured.lens.as_slice());
-    let sites_at = addresses(alloc, sites)?;
+    let chains_len = chains_len(chains, measured.lens.as_slice());
+    let code_len = stub_len(runs.len()) as u64 + chains_len;
     let counters = measured.counted.len() as u64;
-    let table_len = u64::from(table_len(runs, &sites_at)) + LISTED_LEN * counters;
+    let table_len = u64::from(table_len(runs, measured.addresses.as_slice()))
+        + LISTED_LEN * counters;
     let size = up(code_len) + up(table_len) + up(PRIVATE_LEN + COUNTER_ROOM * counters);
     match first_fit(image, size) {
         Some(base) => {
-            let plan = lay_at(alloc, image, runs, sites, chains, hooks, measured, base)?;
+            let plan = lay_at(
+                alloc, image, runs, sites, chains, hooks, measured, chains_len, base,
+            )?;
             Ok(plan)
         }
         None => Err(LayFault::NoRoom(size)),
@@ -110,17 +113,6 @@ fn up(n: u64) -> u64
     ensures { result ≡ up_of n }
 {
     (n + 4095) / 4096 * 4096
-}
-
-/// The addresses of sites.
-fn addresses(alloc: Global, sites: &[Site]) -> Result<Vec<u32>, NoMemory>
-    ensures { IfOk result (λ found. found.items ≡ map (λ s. s.at) sites.now) }
-{
-    let mut found = Vec::with_capacity(alloc, sites.len())?;
-    for site in sites {
-        found.push(site.at)?;
-    }
-    Ok(found)
 }
 
 /// The runs with the addresses of their directories.
@@ -156,20 +148,22 @@ pub fn moved(table: &Table<'_>, address: u32) -> u32
 /// Each site's address with its entry, where the chains begin at `first`.
 fn entry_pairs<F: Question>(
     alloc: Global,
-    sites: &[Site],
-    chains: &[Chain],
+    _sites: &[Site],
+    addresses: &[u32],
+    chains: &ChainList,
     _hooks: &Hooks<F>,
     lens: &[u8],
     first: u32,
 ) -> Result<Vec<(u32, u32)>, NoMemory>
-    requires lens_are { lens.now ≡ code_lens_of _hooks.now sites.now }
-    requires below { AreBelow (length sites.now) chains.now }
+    requires addresses_are { addresses.now ≡ map (λ s. s.at) _sites.now }
+    requires lens_are { lens.now ≡ code_lens_of _hooks.now _sites.now }
+    requires below { AreBelow (length _sites.now) chains.now }
     requires room { first + parts_len lens.now (parts chains.now) < 2 ^ 32 }
     ensures { IfOk result (λ found.
-        found.items ≡ pairs_of _hooks.now sites.now chains.now first) }
+        found.items ≡ pairs_of _hooks.now _sites.now chains.now first) }
 {
     let entries = entries(alloc, chains, lens, first)?;
-    pairs(alloc, sites, &entries)
+    pairs(alloc, _sites, addresses, &entries)
 }
 
 /// What is added to a file, where the block lies at `base`.
@@ -178,9 +172,10 @@ fn lay_at<F: Question>(
     image: &Image,
     runs: &[Run],
     sites: &[Site],
-    chains: &[Chain],
+    chains: &ChainList,
     hooks: &Hooks<F>,
     measured: Measured,
+    chains_len: u64,
     base: u32,
 ) -> Result<Plan, NoMemory>
     requires runs { AreRuns runs.now }
@@ -188,6 +183,7 @@ fn lay_at<F: Question>(
     requires once { EachOnce (length sites.now) (order chains.now) }
     requires linked { AllByRecursion (IsLinked sites.now) chains.now }
     requires measured { IsMeasured hooks.now sites.now measured }
+    requires chains_len { chains_len ≡ parts_len measured.lens (parts chains.now) }
     requires base_is { first_fit_of image.now.segments (size_of hooks.now runs.now sites.now chains.now)
         ≡ Some base }
     ensures laid { IfOk result (λ plan.
@@ -196,14 +192,22 @@ fn lay_at<F: Question>(
         HasPieces hooks.now runs.now sites.now chains.now plan) }
 {
     let Measured {
+        addresses,
         lens,
         ranks,
         counted,
     } = measured;
     let stub_len = stub_len(runs.len());
-    let chains_len = chains_len(chains, lens.as_slice());
     let first = base + stub_len as u32;
-    let pairs = entry_pairs(alloc, sites, chains, hooks, lens.as_slice(), first)?;
+    let pairs = entry_pairs(
+        alloc,
+        sites,
+        addresses.as_slice(),
+        chains,
+        hooks,
+        lens.as_slice(),
+        first,
+    )?;
     let lo = base + up(stub_len as u64 + chains_len) as u32;
     let table = Table::build(alloc, runs, &pairs, lo)?;
     let run_places = run_places(alloc, runs, table.dirs(), lo)?;

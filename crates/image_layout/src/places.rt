@@ -1,6 +1,6 @@
 //! Where the code of sites stands, by its lengths alone.
 
-ghost use Rattle.std.specs.Prelude.{◌≡◌, ℕ, ◌+◌, ◌<◌, ◌≤◌, ◌^◌, length, slice_index, IfOk};
+ghost use Rattle.std.specs.Prelude.{◌≡◌, ℕ, ◌+◌, ◌<◌, ◌≤◌, ◌^◌, length, map, slice_index, IfOk};
 ghost use Rattle.std.specs.List.{All};
 ghost use Rattle.image_layout.specs.Layout.{pairs_by};
 ghost use Rattle.image_layout.specs.Parts.{chain_parts, parts, parts_len, placed, place_or, entry};
@@ -12,7 +12,7 @@ use branch_lengthen::near_len;
 use call_rewrite::far_len;
 use counter_hooks::{Hooks, Question, counter_len};
 use mv_base::{Addrs, Bytes, NoMemory};
-use sequence_join::Chain;
+use sequence_join::{Chain, ChainList};
 use std::alloc::Global;
 use superset::Site;
 use x86_insn::Flow;
@@ -20,10 +20,11 @@ use x86_insn::Flow;
 /// How many bytes a join has.
 const JOIN_LEN: u32 = 5;
 
-/// What is known of sites before they have places: how many bytes the code of each has, how many counted sites stand
-/// before each, and the addresses of the counted sites.
+/// What is known of sites before they have places: their addresses, how many bytes the code of each has, how many counted
+/// sites stand before each, and the addresses of the counted sites.
 #[derive(Drop)]
 pub struct Measured {
+    pub addresses: Addrs,
     pub lens: Bytes,
     pub ranks: Addrs,
     pub counted: Addrs,
@@ -43,11 +44,13 @@ pub fn measure<F: Question>(
     requires few { length sites.now < 2 ^ 32 }
     ensures { IfOk result (IsMeasured hooks.now sites.now) }
 {
+    let mut addresses = Vec::with_capacity(alloc, sites.len())?;
     let mut lens = Vec::with_capacity(alloc, sites.len())?;
     let mut ranks = Vec::with_capacity(alloc, sites.len())?;
     let mut counted = Vec::new(alloc);
     for site in sites {
         let is_counted = hooks.asks(site);
+        addresses.push(site.at)?;
         lens.push(site_len(site, is_counted))?;
         ranks.push(counted.len() as u32)?;
         if is_counted {
@@ -55,6 +58,7 @@ pub fn measure<F: Question>(
         }
     }
     Ok(Measured {
+        addresses: Addrs::new(addresses),
         lens: Bytes::new(lens),
         ranks: Addrs::new(ranks),
         counted: Addrs::new(counted),
@@ -92,29 +96,29 @@ fn piece_len(site: &Site) -> u8
 }
 
 /// How many bytes chains have, by the lengths of the sites' code.
-pub fn chains_len(chains: &[Chain], lens: &[u8]) -> u64
+pub fn chains_len(chains: &ChainList, lens: &[u8]) -> u64
     requires below { AreBelow (length lens.now) chains.now }
     requires room { parts_len lens.now (parts chains.now) < 2 ^ 32 }
     ensures { result ≡ parts_len lens.now (parts chains.now) }
 {
     let mut len = 0;
-    for chain in chains {
-        len += chain_len(chain, lens);
+    for number in 0..chains.len() {
+        len += chain_len(&chains.get(number), lens);
     }
     len
 }
 
 /// How many bytes a chain has.
-fn chain_len(chain: &Chain, lens: &[u8]) -> u64
+fn chain_len(chain: &Chain<'_>, lens: &[u8]) -> u64
     requires below { All (λ k. k < length lens.now) chain.now.links }
     requires room { parts_len lens.now (chain_parts chain.now) < 2 ^ 32 }
     ensures { result ≡ parts_len lens.now (chain_parts chain.now) }
 {
     let mut len = 0;
-    for link in chain.links.as_slice() {
+    for link in chain.links() {
         len += u64::from(lens[*link as usize]);
     }
-    match chain.next {
+    match chain.next() {
         Some(_) => len + u64::from(JOIN_LEN),
         None => len,
     }
@@ -127,7 +131,7 @@ fn chain_len(chain: &Chain, lens: &[u8]) -> u64
 /// `NoMemory`.
 pub fn entries(
     alloc: Global,
-    chains: &[Chain],
+    chains: &ChainList,
     lens: &[u8],
     first: u32,
 ) -> Result<Vec<u32>, NoMemory>
@@ -139,14 +143,14 @@ pub fn entries(
 {
     let mut entries = vec![in alloc; 0; lens.len()]?;
     let mut here = first;
-    for chain in chains {
-        here = place_chain(chain, lens, here, &mut entries);
+    for number in 0..chains.len() {
+        here = place_chain(&chains.get(number), lens, here, &mut entries);
     }
     Ok(entries)
 }
 
 /// Gives the sites of a chain that begins at `from` their entries, and answers where it ends.
-fn place_chain(chain: &Chain, lens: &[u8], from: u32, entries: &mut [u32]) -> u32
+fn place_chain(chain: &Chain<'_>, lens: &[u8], from: u32, entries: &mut [u32]) -> u32
     requires below { All (λ k. k < length lens.now) chain.now.links }
     requires count { length entries.old ≡ length lens.now }
     requires room { from + parts_len lens.now (chain_parts chain.now) < 2 ^ 32 }
@@ -155,11 +159,11 @@ fn place_chain(chain: &Chain, lens: &[u8], from: u32, entries: &mut [u32]) -> u3
         ≡ place_or (slice_index entries.old k) (placed lens.now from (chain_parts chain.now)) k }
 {
     let mut here = from;
-    for link in chain.links.as_slice() {
+    for link in chain.links() {
         entries[*link as usize] = here;
         here += u32::from(lens[*link as usize]);
     }
-    match chain.next {
+    match chain.next() {
         Some(_) => here + JOIN_LEN,
         None => here,
     }
@@ -170,14 +174,20 @@ fn place_chain(chain: &Chain, lens: &[u8], from: u32, entries: &mut [u32]) -> u3
 /// # Errors
 ///
 /// `NoMemory`.
-pub fn pairs(alloc: Global, sites: &[Site], entries: &[u32]) -> Result<Vec<(u32, u32)>, NoMemory>
-    requires { length sites.now ≤ length entries.now }
+pub fn pairs(
+    alloc: Global,
+    _sites: &[Site],
+    addresses: &[u32],
+    entries: &[u32],
+) -> Result<Vec<(u32, u32)>, NoMemory>
+    requires addresses { addresses.now ≡ map (λ s. s.at) _sites.now }
+    requires entries { length addresses.now ≤ length entries.now }
     ensures { IfOk result (λ pairs. pairs.items
-        ≡ pairs_by (λ k. slice_index entries.now k) 0 sites.now) }
+        ≡ pairs_by (λ k. slice_index entries.now k) 0 _sites.now) }
 {
-    let mut pairs = Vec::with_capacity(alloc, sites.len())?;
-    for (index, site) in sites.iter().enumerate() {
-        pairs.push((site.at, entries[index]))?;
+    let mut pairs = Vec::with_capacity(alloc, addresses.len())?;
+    for (index, address) in addresses.iter().enumerate() {
+        pairs.push((*address, entries[index]))?;
     }
     Ok(pairs)
 }

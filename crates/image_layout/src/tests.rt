@@ -15,7 +15,7 @@ use counter_hooks::{Hooks, Question, Rule, picked};
 use elf32_read::{Headers, Image, Run, Segments};
 use elf32_write::Plan;
 use mv_base::Bytes;
-use sequence_join::{Chain, chains};
+use sequence_join::{ChainList, chains};
 use std::alloc::Global;
 use std::test::Fail;
 use superset::{Site, sites};
@@ -26,7 +26,7 @@ fn lay_by<F: Question + Drop>(
     image: &Image,
     runs: &[Run],
     sites: &[Site],
-    chains: &[Chain],
+    chains: &ChainList,
     rule: Rule,
     ask: F,
 ) -> Result<Plan, LayFault>

@@ -29,7 +29,7 @@ use Rattle.mv_rewrite.specs.declared.rewriting.Rewritten.{Rewritten}
 use Rattle.mv_rewrite.specs.declared.rewriting.RewriteFault.{RewriteFault}
 use Rattle.superset.specs.declared.site.Site.{Site}
 use Rattle.mv_rewrite.specs.Sites.{sites, sites_in}
-use Rattle.sequence_join.specs.declared.chain.Chain.{Chain}
+use Rattle.sequence_join.specs.Chains.{Chain}
 use Rattle.image_layout.specs.Fit.{first_fit}
 use Rattle.image_layout.specs.Laying.{IsLaid, LaysOut}
 use Rattle.image_layout.specs.Layout as layout

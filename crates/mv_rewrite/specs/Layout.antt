@@ -6,8 +6,7 @@ use Rattle.elf32_read.specs.Fields.{entry_at, segments}
 use Rattle.elf32_read.specs.Runs.{runs_of}
 use Rattle.elf32_write.specs.declared.plan.Plan.{Plan}
 use Rattle.counter_hooks.specs.declared.rules.Rule.{Rule}
-use Rattle.sequence_join.specs.declared.chain.Chain.{Chain}
-use Rattle.sequence_join.specs.Chains.{chains_of}
+use Rattle.sequence_join.specs.Chains.{Chain, chains_of}
 use Rattle.simulation_laws.specs.declared.anchors.Anchors.{Anchors}
 use Rattle.image_layout.specs.Fit.{first_fit}
 use Rattle.image_layout.specs.Layout as layout

@@ -11,8 +11,7 @@ use Rattle.x86_insn.specs.Flow.{falls, flow_of}
 use Rattle.superset.specs.declared.site.Site.{Site}
 use Rattle.superset.specs.Sites.{Ascend, EndsLow}
 use Rattle.superset.specs.Targets.{successor}
-use Rattle.sequence_join.specs.declared.chain.Chain.{Chain}
-use Rattle.sequence_join.specs.Chains.{after, is_among, is_there, with_links, no_links, link, rest, start, chains_from, address_of, IsGreedy, AreGreedy}
+use Rattle.sequence_join.specs.Chains.{Chain, after, is_among, is_there, with_links, no_links, link, rest, start, chains_from, address_of, IsGreedy, AreGreedy}
 use Rattle.sequence_join.specs.laws.Rests.{by_rest}
 use Rattle.sequence_join.specs.laws.Making.{chains_end, chains_skip, chains_start}
 use Rattle.sequence_join.proofs.Marks.{among-append}

@@ -1,3 +1,4 @@
 -- why the code gives what the definitions say
 pub mod Marks
 pub mod Greedy
+pub mod Spanning

@@ -1,10 +1,10 @@
 -- Which sites are taken while a chain is made.
 use Rattle.std.proofs.Common.{◌≡◌, ℕ, ◌+◌, ◌<◌, ◌≤◌, Bool, true, false, ◌||◌, List, [], ◌∷◌, ◌++◌, length, drop, get_or, set, get_or-set_other, get_or-set_same, eqb, ne_eqb, Option, refl, sym, ap, ◌∙◌, inl, inr, arith, append_assoc}
 use Rattle.std.proofs.Math.Bool.{or_assoc, or-false}
+use Rattle.std.proofs.Math.Seq.{drop-append_seam}
 use Rattle.std.proofs.lemmas.Bool.Decides.{eqb_tells}
 use Rattle.superset.specs.declared.site.Site.{Site}
-use Rattle.sequence_join.specs.declared.chain.Chain.{Chain}
-use Rattle.sequence_join.specs.Chains.{after, goes_on, is_among, link, rest}
+use Rattle.sequence_join.specs.Chains.{Chain, after, goes_on, is_among, link, rest}
 use Rattle.sequence_join.specs.Walking.{is_taken, chain_at, chain_by}
 use Rattle.sequence_join.specs.laws.Rests.{goes_on_at}
 
@@ -35,6 +35,17 @@ or_false : (a b : Bool) → (a || (b || false)) ≡ (a || b)
 or_false true b = refl
 or_false false true = refl
 or_false false false = refl
+
+-- what stands behind the first links, when one link more is appended
+pub behind_first : (old now new : List ℕ) (here : ℕ) → now ≡ old ++ drop (length old) now → new ≡ now ++ here ∷ [] → drop (length old) new ≡ drop (length old) now ++ here ∷ []
+behind_first old now new here split more =
+    let ks = drop (length old) now in
+    ap (drop (length old)) (more ∙ (ap (λ (l : List ℕ). l ++ here ∷ []) split ∙ append_assoc old ks (here ∷ []))) ∙ drop-append_seam old (ks ++ here ∷ [])
+
+pub still_first : (old now new : List ℕ) (here : ℕ) → now ≡ old ++ drop (length old) now → new ≡ now ++ here ∷ [] → new ≡ old ++ drop (length old) new
+still_first old now new here split more =
+    let ks = drop (length old) now in
+    more ∙ (ap (λ (l : List ℕ). l ++ here ∷ []) split ∙ (append_assoc old ks (here ∷ []) ∙ ap (λ (l : List ℕ). old ++ l) (sym (behind_first old now new here split more))))
 
 -- one more index is marked
 pub marked_more : (taken now : List Bool) (ks : List ℕ) (here j : ℕ) → here < length now → is_taken now j ≡ (is_taken taken j || is_among ks j) → is_taken (set now here true) j ≡ (is_taken taken j || is_among (ks ++ here ∷ []) j)

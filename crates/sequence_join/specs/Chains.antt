@@ -6,7 +6,12 @@ use Rattle.std.specs.Option.{option_and_then, option_map}
 use Rattle.x86_insn.specs.Flow.{flow_of, falls}
 use Rattle.superset.specs.declared.site.Site.{Site}
 use Rattle.superset.specs.Targets.{successor}
-use Rattle.sequence_join.specs.declared.chain.Chain.{Chain}
+
+-- a chain: its links, which are sites by their indexes from 0 on, and the address behind the last one's instruction, where
+-- its flow falls through
+pub record Chain : Type 0 where
+  pub links : List ℕ
+  pub next : Option ℕ
 
 -- the address at which a site's flow goes on by itself: the successor, or none where the flow doesn't fall through
 abbrev pub after : Site → Option ℕ

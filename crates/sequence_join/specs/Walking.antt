@@ -1,8 +1,8 @@
 -- What the steps of the code give: marks of sites, and a chain from one of its sites on.
-use Rattle.std.specs.Prelude.{ℕ, ◌+◌, Bool, false, List, drop, Option, Some, None, slice_index_or}
+use Rattle.std.specs.Prelude.{◌≡◌, ℕ, ◌+◌, Bool, false, List, length, drop, Option, Some, None, slice_index_or}
+use Rattle.sequence_join.specs.declared.chain.Span.{Span}
 use Rattle.superset.specs.declared.site.Site.{Site}
-use Rattle.sequence_join.specs.declared.chain.Chain.{Chain}
-use Rattle.sequence_join.specs.Chains.{no_links, link, rest, goes_on}
+use Rattle.sequence_join.specs.Chains.{Chain, no_links, link, rest, goes_on}
 
 -- what marks say of an index; one that has no mark isn't taken
 abbrev pub is_taken : List Bool → ℕ → Bool
@@ -16,3 +16,9 @@ chain_at taken sites k = link k (rest taken (goes_on sites k) (k + 1) (drop (k +
 abbrev pub chain_by : (ℕ → Bool) → List Site → Option ℕ → Option ℕ → Chain
 chain_by taken sites address None = no_links address
 chain_by taken sites address (Some k) = chain_at taken sites k
+
+-- a span that begins behind so many links is that of a chain
+pub record IsSpanOf (n : ℕ) (c : Chain) (s : Span) : Type 0 where
+  pub from : s.from ≡ n
+  pub len : s.len ≡ length c.links
+  pub next : s.next ≡ c.next

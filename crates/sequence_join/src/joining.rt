@@ -1,14 +1,14 @@
 //! Putting sites into chains.
 
-ghost use Rattle.std.specs.Prelude.{◌≡◌, ℕ, ◌+◌, ◌^◌, ◌<◌, [], length, drop, IfOk, IfSome};
+ghost use Rattle.std.specs.Prelude.{◌≡◌, ℕ, ◌+◌, ◌^◌, ◌<◌, ◌++◌, [], length, drop, IfOk, OnOk, IfSome};
 ghost use Rattle.std.specs.List.{AllByRecursion};
 ghost use Rattle.superset.specs.Sites.{Ascend, EndsLow};
 ghost use Rattle.sequence_join.specs.Chains.{after as after_of, with_links, rest, chains_of, order};
 ghost use Rattle.sequence_join.specs.Chains.{EachOnce, IsLinked, AreGreedy};
-ghost use Rattle.sequence_join.specs.Walking.{is_taken, chain_at, chain_by};
+ghost use Rattle.sequence_join.specs.Walking.{is_taken, chain_at, chain_by, IsSpanOf};
 
-use crate::chain::Chain;
-use mv_base::{Addrs, NoMemory};
+use crate::chain::{ChainList, Span};
+use mv_base::NoMemory;
 use std::alloc::Global;
 use superset::{Site, successor};
 
@@ -19,40 +19,45 @@ use superset::{Site, successor};
 /// # Errors
 ///
 /// `NoMemory`.
-pub fn chains(alloc: Global, sites: &[Site]) -> Result<Vec<Chain>, NoMemory>
+pub fn chains(alloc: Global, sites: &[Site]) -> Result<ChainList, NoMemory>
     requires ascend { Ascend 0 sites.now }
     requires ends { AllByRecursion EndsLow sites.now }
-    ensures exact { IfOk result (λ made. made.items ≡ chains_of sites.now) }
-    ensures once { IfOk result (λ made. EachOnce (length sites.now) (order made.items)) }
-    ensures linked { IfOk result (λ made. AllByRecursion (IsLinked sites.now) made.items) }
-    ensures greedy { IfOk result (λ made. AreGreedy sites.now [] made.items) }
+    ensures exact { IfOk result (λ made. made ≡ chains_of sites.now) }
+    ensures once { IfOk result (λ made. EachOnce (length sites.now) (order made)) }
+    ensures linked { IfOk result (λ made. AllByRecursion (IsLinked sites.now) made) }
+    ensures greedy { IfOk result (λ made. AreGreedy sites.now [] made) }
 {
     let mut taken = vec![in alloc; false; sites.len()]?;
-    let mut made = Vec::new(alloc);
+    let mut links = Vec::with_capacity(alloc, sites.len())?;
+    let mut spans = Vec::new(alloc);
     for first in 0..sites.len() {
         if !taken[first] {
-            made.push(chain_from(alloc, sites, &mut taken, first)?)?;
+            spans.push(put_chain(sites, &mut taken, first, &mut links)?)?;
         }
     }
-    Ok(made)
+    Ok(ChainList::new(links, spans))
 }
 
-/// The chain that starts at the site of an index. Its links are marked as taken.
-fn chain_from(
-    alloc: Global,
+/// Appends the links of the chain that starts at the site of an index, and marks them as taken. The answer says where they
+/// stand among all links, and where the chain goes on.
+fn put_chain(
     sites: &[Site],
     taken: &mut [bool],
     first: usize,
-) -> Result<Chain, NoMemory>
+    links: &mut Vec<u32>,
+) -> Result<Span, NoMemory>
     requires ascend { Ascend 0 sites.now }
     requires few { length sites.now < 2 ^ 32 }
     requires marks { length taken.old ≡ length sites.now }
     requires first { first < length sites.now }
-    ensures made { IfOk result (λ c. c ≡ chain_at (is_taken taken.old) sites.now first) }
-    ensures marked { IfOk result
-        (λ c. (k : ℕ) → is_taken taken.new k ≡ with_links (is_taken taken.old) c k) }
+    ensures links { OnOk result (links.new.items ≡ links.old.items
+        ++ (chain_at (is_taken taken.old) sites.now first).links) }
+    ensures span { IfOk result
+        (IsSpanOf (length links.old.items) (chain_at (is_taken taken.old) sites.now first)) }
+    ensures marked { OnOk result ((k : ℕ) → is_taken taken.new k
+        ≡ with_links (is_taken taken.old) (chain_at (is_taken taken.old) sites.now first) k) }
 {
-    let mut links = Vec::new(alloc);
+    let from = links.len();
     let mut here = first;
     loop {
         links.push(here as u32)?;
@@ -61,8 +66,9 @@ fn chain_from(
         match follower(sites, taken, here, next) {
             Some(index) => here = index,
             None => {
-                return Ok(Chain {
-                    links: Addrs::new(links),
+                return Ok(Span {
+                    from,
+                    len: links.len() - from,
                     next,
                 });
             }

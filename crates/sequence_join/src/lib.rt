@@ -9,7 +9,7 @@
 pub mod chain;
 pub mod joining;
 
-pub use chain::Chain;
+pub use chain::{Chain, ChainList, Span};
 pub use joining::chains;
 
 #[cfg(test)]

@@ -25,9 +25,11 @@ fn expect_chains(
     }];
     let made = chains(alloc, &sites(alloc, &runs)?)?;
     assert_eq!(rt; made.len(), expected.len());
-    for (chain, (links, next)) in made.iter().zip(expected) {
-        assert_eq!(rt; chain.links.as_slice(), *links);
-        assert_eq!(rt; chain.next, *next);
+    for (number, (links, next)) in expected.iter().enumerate() {
+        assert!(rt; number < made.len());
+        let chain = made.get(number);
+        assert_eq!(rt; chain.links(), *links);
+        assert_eq!(rt; chain.next(), *next);
     }
     Ok(())
 }

@@ -5,8 +5,7 @@ use Rattle.std.specs.List.{AllByRecursion}
 use Rattle.std.proofs.lemmas.Bool.{cases_eq, eq-eqb, ne_eqb}
 use Rattle.std.proofs.lemmas.List.{length-append}
 use Rattle.superset.specs.declared.site.Site.{Site}
-use Rattle.sequence_join.specs.declared.chain.Chain.{Chain}
-use Rattle.sequence_join.specs.Chains.{order, EachOnce, AreLinks, IsLinked}
+use Rattle.sequence_join.specs.Chains.{Chain, order, EachOnce, AreLinks, IsLinked}
 use Rattle.image_layout.specs.Parts.{link_parts, chain_parts, parts, parts_len}
 use Rattle.image_layout.specs.laws.Placing.{one_if, parts_len-append}
 use Rattle.image_layout.specs.laws.Following.{count_of, count-cons, once_most, once_below, all_below}

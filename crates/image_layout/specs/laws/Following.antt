@@ -6,8 +6,7 @@ use Rattle.std.proofs.lemmas.List.Elements.{All-from_recursion}
 use Rattle.std.proofs.lemmas.List.Sums.{sum_by-cons, sum_by-append}
 use Rattle.std.proofs.lemmas.Option.{same_Some}
 use Rattle.superset.specs.declared.site.Site.{Site}
-use Rattle.sequence_join.specs.declared.chain.Chain.{Chain}
-use Rattle.sequence_join.specs.Chains.{order, EachOnce, goes_on, address_of, AreLinked, AreLinks, IsLinked}
+use Rattle.sequence_join.specs.Chains.{Chain, order, EachOnce, goes_on, address_of, AreLinked, AreLinks, IsLinked}
 use Rattle.image_layout.specs.Parts.{Part, Piece, Join, join_parts, link_parts, chain_parts, parts, is_piece}
 use Rattle.image_layout.specs.Sites.{AreBelow}
 use Rattle.image_layout.specs.laws.Placing.{one_if, occurs, AreSingle, first_part, behind}

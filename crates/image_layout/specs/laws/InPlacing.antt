@@ -17,8 +17,7 @@ use Rattle.counter_hooks.specs.declared.rules.Rule.{Rule}
 use Rattle.superset.specs.declared.site.Site.{Site}
 use Rattle.superset.specs.Sites.{site_at}
 use Rattle.superset.specs.Targets.{successor}
-use Rattle.sequence_join.specs.declared.chain.Chain.{Chain}
-use Rattle.sequence_join.specs.Chains.{after, goes_on, address_of}
+use Rattle.sequence_join.specs.Chains.{Chain, after, goes_on, address_of}
 use Rattle.simulation_laws.specs.declared.anchors.Anchors.{Anchors}
 use Rattle.simulation_laws.specs.Pieces.{counted_piece}
 use Rattle.image_layout.specs.InPlace.{IsInPlace, HasPieces}

@@ -13,8 +13,7 @@ use Rattle.map_table.specs.Paged.{table_size, AreRuns, IsMade}
 use Rattle.counter_hooks.specs.declared.rules.Rule.{Rule}
 use Rattle.superset.specs.declared.site.Site.{Site}
 use Rattle.superset.specs.Sites.{sites_in}
-use Rattle.sequence_join.specs.declared.chain.Chain.{Chain}
-use Rattle.sequence_join.specs.Chains.{order, EachOnce, IsLinked}
+use Rattle.sequence_join.specs.Chains.{Chain, order, EachOnce, IsLinked}
 use Rattle.simulation_laws.specs.declared.anchors.Anchors.{Anchors}
 use Rattle.image_layout.specs.Fit.{first_fit}
 use Rattle.image_layout.specs.Layout.{stub_len, code_len, table_len, size, pairs, pairs_from, table_from}

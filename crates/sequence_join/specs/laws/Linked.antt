@@ -7,8 +7,7 @@ use Rattle.std.proofs.lemmas.Bool.{cases_Bool, cases_lt}
 use Rattle.std.proofs.lemmas.List.{drop_more, drop_all}
 use Rattle.std.proofs.lemmas.Option.{slice_get-get_or}
 use Rattle.superset.specs.declared.site.Site.{Site}
-use Rattle.sequence_join.specs.declared.chain.Chain.{Chain}
-use Rattle.sequence_join.specs.Chains.{after, is_there, with_links, rest, start, chains_from, address_of, goes_on, AreLinked, IsLinked}
+use Rattle.sequence_join.specs.Chains.{Chain, after, is_there, with_links, rest, start, chains_from, address_of, goes_on, AreLinked, IsLinked}
 use Rattle.sequence_join.specs.laws.Rests.{by_rest}
 use Rattle.sequence_join.specs.laws.Making.{chains_end, chains_skip, chains_start}
 

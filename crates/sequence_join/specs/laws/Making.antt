@@ -5,8 +5,7 @@ use Rattle.std.proofs.Math.Path.{fun_ext}
 use Rattle.std.proofs.lemmas.List.{drop_more, drop_all, append-nil}
 use Rattle.superset.specs.declared.site.Site.{Site}
 use Rattle.superset.specs.Sites.{Ascend, EndsLow}
-use Rattle.sequence_join.specs.declared.chain.Chain.{Chain}
-use Rattle.sequence_join.specs.Chains.{with_links, link, rest, start, chains_from, chains_of}
+use Rattle.sequence_join.specs.Chains.{Chain, with_links, link, rest, start, chains_from, chains_of}
 use Rattle.sequence_join.specs.Walking.{chain_at}
 use Rattle.sequence_join.specs.laws.Rests.{goes_on_at}
 

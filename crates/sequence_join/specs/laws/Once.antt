@@ -7,8 +7,7 @@ use Rattle.std.proofs.lemmas.Bool.{cases_Bool, cases_lt}
 use Rattle.std.proofs.lemmas.Bool.Decides.{eqb_tells}
 use Rattle.std.proofs.lemmas.List.Sums.{sum_by-cons, sum_by-append}
 use Rattle.superset.specs.declared.site.Site.{Site}
-use Rattle.sequence_join.specs.declared.chain.Chain.{Chain}
-use Rattle.sequence_join.specs.Chains.{after, is_among, with_links, rest, start, chains_from, chains_of, order, EachOnce}
+use Rattle.sequence_join.specs.Chains.{Chain, after, is_among, with_links, rest, start, chains_from, chains_of, order, EachOnce}
 use Rattle.sequence_join.specs.laws.Rests.{by_rest}
 use Rattle.sequence_join.specs.laws.Making.{chains_end, chains_skip, chains_start}
 

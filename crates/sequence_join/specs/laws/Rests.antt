@@ -7,8 +7,7 @@ use Rattle.std.proofs.lemmas.List.{drop_more}
 use Rattle.std.proofs.lemmas.Option.{slice_get-get_or}
 use Rattle.superset.specs.declared.site.Site.{Site}
 use Rattle.superset.specs.Sites.{Ascend}
-use Rattle.sequence_join.specs.declared.chain.Chain.{Chain}
-use Rattle.sequence_join.specs.Chains.{after, is_there, no_links, link, rest, goes_on}
+use Rattle.sequence_join.specs.Chains.{Chain, after, is_there, no_links, link, rest, goes_on}
 use Rattle.sequence_join.specs.Walking.{chain_at, chain_by}
 
 pub rest_end : (taken : ℕ → Bool) (next : Option ℕ) (k : ℕ) (ss : List Site) → ss ≡ [] → rest taken next k ss ≡ no_links next

@@ -1,4 +1,4 @@
-use Rattle.std.proofs.Common.{◌≡◌, ℕ, ◌+◌, ◌<◌, ◌++◌, List, length, get_or, ap, sym, ◌∙◌, subst, arith}
+use Rattle.std.proofs.Common.{◌≡◌, ℕ, ◌+◌, ◌<◌, ◌++◌, List, length, get_or, refl, ap, sym, ◌∙◌, subst, arith}
 use Rattle.std.specs.List.{All}
 use Rattle.std.proofs.lemmas.List.{length-append}
 use Rattle.std.proofs.lemmas.Result.{on_ok_weaker}
@@ -9,29 +9,29 @@ use Rattle.image_layout.specs.Parts.{Piece, link_parts, parts_len, placed}
 use Rattle.image_layout.specs.Pieces.{counters, code_lens, part_bytes, bytes_of}
 use Rattle.image_layout.specs.Sites.{IsShort, IsWhole}
 use Rattle.image_layout.proofs.Steps.{links_step, links_end, join_some}
-use Rattle.image_layout.proofs.Putting.{put_link, put_join, put_nothing, there_is, rank_low, counter_low, site_piece, sized_parts}
+use Rattle.image_layout.proofs.Putting.{put_link, put_join, put_nothing, there_is, rank_low, counter_low, site_bytes, sized_parts}
 use Rattle.image_layout.proofs.code.put_chain.Goals as goal
 
 pub counter_place-place-requires : goal.counter_place-place-requires
 counter_place-place-requires g c =
-    let low = subst (λ (l : List ℕ). All (λ k. k < length c.args.sites.now) l) (sym c.as_slice-link-items.ensures) c.requires.below in
+    let low = subst (λ (l : List ℕ). All (λ k. k < length c.args.sites.now) l) (sym c.links-link-items.ensures) c.requires.below in
     omega (arith, c.requires.counters, rank_low c.args.hooks.now c.args.sites.now c.args.ranks.now _ c.requires.ranks (low c.loop-link.link-index 0 c.loop-link-test.true))
 
-pub site_code-piece-requires-clause-short : goal.site_code-piece-requires-clause-short
-site_code-piece-requires-clause-short g c =
-    let low = subst (λ (l : List ℕ). All (λ k. k < length c.args.sites.now) l) (sym c.as_slice-link-items.ensures) c.requires.below in
+pub put_site-requires-clause-short : goal.put_site-requires-clause-short
+put_site-requires-clause-short g c =
+    let low = subst (λ (l : List ℕ). All (λ k. k < length c.args.sites.now) l) (sym c.links-link-items.ensures) c.requires.below in
     there_is IsShort c.args.sites.now _ _ (low c.loop-link.link-index 0 c.loop-link-test.true) (c.requires.short _)
 
-pub site_code-piece-requires-clause-whole : goal.site_code-piece-requires-clause-whole
-site_code-piece-requires-clause-whole g c =
-    let low = subst (λ (l : List ℕ). All (λ k. k < length c.args.sites.now) l) (sym c.as_slice-link-items.ensures) c.requires.below in
+pub put_site-requires-clause-whole : goal.put_site-requires-clause-whole
+put_site-requires-clause-whole g c =
+    let low = subst (λ (l : List ℕ). All (λ k. k < length c.args.sites.now) l) (sym c.links-link-items.ensures) c.requires.below in
     there_is (IsWhole (code_of c.args.runs.now)) c.args.sites.now _ _ (low c.loop-link.link-index 0 c.loop-link-test.true) (c.requires.whole _)
 
-pub site_code-piece-requires-clause-room : goal.site_code-piece-requires-clause-room
-site_code-piece-requires-clause-room g c =
+pub put_site-requires-clause-room : goal.put_site-requires-clause-room
+put_site-requires-clause-room g c =
     let lens = code_lens c.args.hooks.now c.args.sites.now in
     let next = c.args.chain.now.next in
-    let low = subst (λ (l : List ℕ). All (λ k. k < length c.args.sites.now) l) (sym c.as_slice-link-items.ensures) c.requires.below in
+    let low = subst (λ (l : List ℕ). All (λ k. k < length c.args.sites.now) l) (sym c.links-link-items.ensures) c.requires.below in
     let below = low c.loop-link.link-index 0 c.loop-link-test.true in
     omega (
       arith,
@@ -40,8 +40,8 @@ site_code-piece-requires-clause-room g c =
       c.loop-link.code.ok.0,
       c.loop-link.invariant.room,
       counter_low c.args.hooks.now c.args.anchors c.args.sites.now c.requires.ascend c.args.ranks.now c.requires.ranks _ _ below c.counter_place-place.result c.counter_place-place.ensures,
-      links_step lens c.as_slice-link-items.result.now c.loop-link.link-index next c.loop-link-test.true,
-      ap (λ (l : List ℕ). parts_len lens (link_parts l next)) c.as_slice-link-items.ensures,
+      links_step lens c.links-link-items.result.now c.loop-link.link-index next c.loop-link-test.true,
+      ap (λ (l : List ℕ). parts_len lens (link_parts l next)) c.links-link-items.ensures,
     )
 
 pub loop-link-preserved : goal.loop-link-preserved
@@ -50,23 +50,24 @@ loop-link-preserved g c =
     let an = c.args.anchors in
     let ss = c.args.sites.now in
     let lens = code_lens rule ss in
-    let ks = c.as_slice-link-items.result.now in
+    let ks = c.links-link-items.result.now in
     let i = c.loop-link.link-index in
     let next = c.args.chain.now.next in
     let move : ℕ → ℕ = moved c.args.table.now.pairs in
     let code = code_of c.args.runs.now in
     let bytes = part_bytes an move code (counters rule an ss) ss in
-    let low = subst (λ (l : List ℕ). All (λ k. k < length ss) l) (sym c.as_slice-link-items.ensures) c.requires.below in
+    let low = subst (λ (l : List ℕ). All (λ k. k < length ss) l) (sym c.links-link-items.ensures) c.requires.below in
     let below = low i 0 c.loop-link-test.true in
-    let p = c.site_code-piece.result in
     let now = c.loop-link.code.items in
-    let new = c.extend_from_slice.new.self.items in
-    let here_is : an.stub + c.len.result ≡ an.stub + length now = omega (arith, c.len.ensures, c.loop-link.code.ok.0) in
-    let new_is = c.in_ok-extend_from_slice.ensures.items ∙ ap (λ (l : List ℕ). now ++ l) c.as_slice.ensures in
-    let own = site_piece rule an ss c.requires.ascend c.args.ranks.now c.requires.ranks (get_or ks i 0) _ below c.counter_place-place.result c.counter_place-place.ensures move code (an.stub + c.len.result) p c.site_code-piece.ensures in
-    let size = ap (λ (l : List ℕ). length l) own ∙ sized_parts rule an move code ss c.requires.whole c.requires.ascend (an.stub + c.len.result) (Piece (get_or ks i 0)) in
+    let new = c.put_site.new.code.items in
+    let here = an.stub + c.len.result in
+    let here_is : here ≡ an.stub + length now = omega (arith, c.len.ensures, c.loop-link.code.ok.0) in
+    let own = site_bytes rule an ss c.requires.ascend c.args.ranks.now c.requires.ranks (get_or ks i 0) _ below c.counter_place-place.result c.counter_place-place.ensures move code here in
+    let p = bytes here (Piece (get_or ks i 0)) in
+    let new_is : new ≡ now ++ p = c.in_ok-put_site.ensures ∙ ap (λ (l : List ℕ). now ++ l) own in
+    let size = sized_parts rule an move code ss c.requires.whole c.requires.ascend here (Piece (get_or ks i 0)) in
     record {
-      whole = put_link lens bytes an.stub ks i next now new p (an.stub + c.len.result) c.loop-link-test.true here_is own size new_is ∙ c.loop-link.invariant.whole;
+      whole = put_link lens bytes an.stub ks i next now new p here c.loop-link-test.true here_is refl size new_is ∙ c.loop-link.invariant.whole;
       room = omega (arith, ap (λ (l : List ℕ). length l) new_is, length-append now p, size, links_step lens ks i next c.loop-link-test.true, c.loop-link.invariant.room);
     }
 
@@ -74,14 +75,14 @@ pub put_join-requires : goal.put_join-requires
 put_join-requires g c =
     let lens = code_lens c.args.hooks.now c.args.sites.now in
     let next = c.args.chain.now.next in
-    omega (arith, c.requires.room, c.loop-link.invariant.room, links_end lens c.as_slice-link-items.result.now c.loop-link.link-index next c.loop-link-test.false, join_some lens next _ c.in-Some.is, ap (λ (l : List ℕ). parts_len lens (link_parts l next)) c.as_slice-link-items.ensures)
+    omega (arith, c.requires.room, c.loop-link.invariant.room, links_end lens c.links-link-items.result.now c.loop-link.link-index next c.loop-link-test.false, join_some lens next _ (sym c.in-Some.ensures), ap (λ (l : List ℕ). parts_len lens (link_parts l next)) c.links-link-items.ensures)
 
 pub returns-in-Some : goal.returns-in-Some
 returns-in-Some g c =
     let rule = c.args.hooks.now in
     let ss = c.args.sites.now in
     let lens = code_lens rule ss in
-    let ks = c.as_slice-link-items.result.now in
+    let ks = c.links-link-items.result.now in
     let i = c.loop-link.link-index in
     let next = c.args.chain.now.next in
     let move : ℕ → ℕ = moved c.args.table.now.pairs in
@@ -90,8 +91,8 @@ returns-in-Some g c =
     let now = c.loop-link.code.items in
     let new = c.put_join.new.code.items in
     on_ok_weaker c.put_join.result
-    (λ new_is. put_join lens bytes c.args.anchors.stub ks i next now new _ c.loop-link-test.false c.in-Some.is (jump_len (c.args.anchors.stub + length now) (move _)) new_is
-    ∙ (c.loop-link.invariant.whole ∙ ap (λ (l : List ℕ). old ++ bytes_of bytes (placed lens (c.args.anchors.stub + length old) (link_parts l next))) c.as_slice-link-items.ensures))
+    (λ new_is. put_join lens bytes c.args.anchors.stub ks i next now new _ c.loop-link-test.false (sym c.in-Some.ensures) (jump_len (c.args.anchors.stub + length now) (move _)) new_is
+    ∙ (c.loop-link.invariant.whole ∙ ap (λ (l : List ℕ). old ++ bytes_of bytes (placed lens (c.args.anchors.stub + length old) (link_parts l next))) c.links-link-items.ensures))
     c.put_join.ensures
 
 pub returns-in-None : goal.returns-in-None
@@ -99,10 +100,10 @@ returns-in-None g c =
     let rule = c.args.hooks.now in
     let ss = c.args.sites.now in
     let lens = code_lens rule ss in
-    let ks = c.as_slice-link-items.result.now in
+    let ks = c.links-link-items.result.now in
     let next = c.args.chain.now.next in
     let move : ℕ → ℕ = moved c.args.table.now.pairs in
     let bytes = part_bytes c.args.anchors move (code_of c.args.runs.now) (counters rule c.args.anchors ss) ss in
     let old = c.args.code.now.items in
-    put_nothing lens bytes c.args.anchors.stub ks c.loop-link.link-index next c.loop-link.code.items c.loop-link-test.false c.in-None.is
-    ∙ (c.loop-link.invariant.whole ∙ ap (λ (l : List ℕ). old ++ bytes_of bytes (placed lens (c.args.anchors.stub + length old) (link_parts l next))) c.as_slice-link-items.ensures)
+    put_nothing lens bytes c.args.anchors.stub ks c.loop-link.link-index next c.loop-link.code.items c.loop-link-test.false (sym c.in-None.ensures)
+    ∙ (c.loop-link.invariant.whole ∙ ap (λ (l : List ℕ). old ++ bytes_of bytes (placed lens (c.args.anchors.stub + length old) (link_parts l next))) c.links-link-items.ensures)

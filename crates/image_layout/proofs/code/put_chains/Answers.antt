@@ -1,4 +1,5 @@
-use Rattle.std.proofs.Common.{ℕ, refl, ◌∙◌, arith}
+use Rattle.std.proofs.lemmas.Option.{get_or_from_slice_get}
+use Rattle.std.proofs.Common.{ℕ, refl, ◌∙◌, arith, sym}
 use Rattle.elf32_read.specs.Runs.{code_of}
 use Rattle.image_layout.specs.Layout.{moved}
 use Rattle.image_layout.specs.Parts.{chain_parts}
@@ -9,29 +10,29 @@ use Rattle.image_layout.proofs.code.put_chains.Goals as goal
 
 pub put_chain-requires-clause-below : goal.put_chain-requires-clause-below
 put_chain-requires-clause-below g c =
-    (below_here _ c.args.chains.now c.loop-chain.chain-index c.chain-item.result c.loop-chain-test.true c.chain-item.is c.loop-chain.invariant.below).0
+    (below_here _ c.args.chains.now c.loop-number.number c.get-chain.result (omega (arith, c.loop-number-test.true, c.len-number-end.ensures)) (sym (get_or_from_slice_get c.args.chains.now _ _ _ (sym c.get-chain.ensures))) c.loop-number.invariant.below).0
 
 pub put_chain-requires-clause-room : goal.put_chain-requires-clause-room
 put_chain-requires-clause-room g c =
-    omega (arith, chains_step (code_lens c.args.hooks.now c.args.sites.now) c.args.chains.now c.loop-chain.chain-index c.chain-item.result c.loop-chain-test.true c.chain-item.is)
+    omega (arith, chains_step (code_lens c.args.hooks.now c.args.sites.now) c.args.chains.now c.loop-number.number c.get-chain.result (omega (arith, c.loop-number-test.true, c.len-number-end.ensures)) (sym (get_or_from_slice_get c.args.chains.now _ _ _ (sym c.get-chain.ensures))))
 
-pub loop-chain-preserved : goal.loop-chain-preserved
-loop-chain-preserved g c =
+pub loop-number-preserved : goal.loop-number-preserved
+loop-number-preserved g c =
     let rule = c.args.hooks.now in
     let ss = c.args.sites.now in
     let lens = code_lens rule ss in
     let cs = c.args.chains.now in
-    let i = c.loop-chain.chain-index in
+    let i = c.loop-number.number in
     let move : ℕ → ℕ = moved c.args.table.now.pairs in
     let code = code_of c.args.runs.now in
     let bytes = part_bytes c.args.anchors move code (counters rule c.args.anchors ss) ss in
     let sized = sized_parts rule c.args.anchors move code ss c.requires.whole c.requires.ascend in
-    let now = c.loop-chain.code.items in
+    let now = c.loop-number.code.items in
     let new = c.put_chain.new.code.items in
     record {
-      whole = put_chain lens bytes c.args.anchors.stub sized cs i c.chain-item.result now new c.loop-chain-test.true c.chain-item.is c.in_ok-put_chain.ensures ∙ c.loop-chain.invariant.whole;
-      room = omega (arith, length-put lens bytes c.args.anchors.stub sized now new (chain_parts c.chain-item.result) c.in_ok-put_chain.ensures, chains_step lens cs i c.chain-item.result c.loop-chain-test.true c.chain-item.is, c.loop-chain.invariant.room);
-      below = (below_here _ cs i c.chain-item.result c.loop-chain-test.true c.chain-item.is c.loop-chain.invariant.below).1;
+      whole = put_chain lens bytes c.args.anchors.stub sized cs i c.get-chain.result now new (omega (arith, c.loop-number-test.true, c.len-number-end.ensures)) (sym (get_or_from_slice_get c.args.chains.now _ _ _ (sym c.get-chain.ensures))) c.in_ok-put_chain.ensures ∙ c.loop-number.invariant.whole;
+      room = omega (arith, length-put lens bytes c.args.anchors.stub sized now new (chain_parts c.get-chain.result) c.in_ok-put_chain.ensures, chains_step lens cs i c.get-chain.result (omega (arith, c.loop-number-test.true, c.len-number-end.ensures)) (sym (get_or_from_slice_get c.args.chains.now _ _ _ (sym c.get-chain.ensures))), c.loop-number.invariant.room);
+      below = (below_here _ cs i c.get-chain.result (omega (arith, c.loop-number-test.true, c.len-number-end.ensures)) (sym (get_or_from_slice_get c.args.chains.now _ _ _ (sym c.get-chain.ensures))) c.loop-number.invariant.below).1;
     }
 
 pub returns : goal.returns
@@ -39,4 +40,4 @@ unfolding chain_code
 returns g c =
     let ss = c.args.sites.now in
     let bytes = part_bytes c.args.anchors (moved c.args.table.now.pairs) (code_of c.args.runs.now) (counters c.args.hooks.now c.args.anchors ss) ss in
-    put_all (code_lens c.args.hooks.now ss) bytes c.args.anchors.stub c.loop-chain.code.items c.loop-chain.code.items _ (chains_gone c.args.chains.now c.loop-chain.chain-index c.loop-chain-test.false) refl ∙ c.loop-chain.invariant.whole
+    put_all (code_lens c.args.hooks.now ss) bytes c.args.anchors.stub c.loop-number.code.items c.loop-number.code.items _ (chains_gone c.args.chains.now c.loop-number.number (omega (arith, c.loop-number-test.false, c.len-number-end.ensures))) refl ∙ c.loop-number.invariant.whole

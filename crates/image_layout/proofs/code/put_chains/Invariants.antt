@@ -6,10 +6,10 @@ use Rattle.image_layout.specs.Pieces.{counters, code_lens, part_bytes, bytes_of}
 use Rattle.image_layout.specs.Sites.{AreBelow}
 use Rattle.image_layout.proofs.code.put_chains.Given as goal
 
-abbrev pub invariant-loop-chain : goal.invariant-loop-chain
-invariant-loop-chain g l = record {
-  whole : l.code.items ++ bytes_of (part_bytes l.anchors (moved l.table.pairs) (code_of l.runs) (counters l.hooks l.anchors l.sites) l.sites) (placed (code_lens l.hooks l.sites) (l.anchors.stub + length l.code.items) (parts (drop l.chain-index l.chains)))
+abbrev pub invariant-loop-number : goal.invariant-loop-number
+invariant-loop-number g l = record {
+  whole : l.code.items ++ bytes_of (part_bytes l.anchors (moved l.table.pairs) (code_of l.runs) (counters l.hooks l.anchors l.sites) l.sites) (placed (code_lens l.hooks l.sites) (l.anchors.stub + length l.code.items) (parts (drop l.number l.chains)))
       ≡ l.fn.code.items ++ bytes_of (part_bytes l.anchors (moved l.table.pairs) (code_of l.runs) (counters l.hooks l.anchors l.sites) l.sites) (placed (code_lens l.hooks l.sites) (l.anchors.stub + length l.fn.code.items) (parts l.chains));
-  room : length l.code.items + parts_len (code_lens l.hooks l.sites) (parts (drop l.chain-index l.chains)) ≡ length l.fn.code.items + parts_len (code_lens l.hooks l.sites) (parts l.chains);
-  below : AreBelow (length l.sites) (drop l.chain-index l.chains);
+  room : length l.code.items + parts_len (code_lens l.hooks l.sites) (parts (drop l.number l.chains)) ≡ length l.fn.code.items + parts_len (code_lens l.hooks l.sites) (parts l.chains);
+  below : AreBelow (length l.sites) (drop l.number l.chains);
 }

@@ -20,30 +20,30 @@ measure-requires-clause-few g c =
     let is : AreLaid c.args.runs.now c.args.sites.now c.args.chains.now = record { runs = c.requires.runs; sites = c.requires.sites; once = c.requires.once; linked = c.requires.linked } in
     omega (arith, count c.args.runs.now c.args.sites.now c.args.chains.now is)
 
-pub chains_len-requires-clause-below : goal.chains_len-requires-clause-below
-chains_len-requires-clause-below g c =
+pub chains_len-chains_len-requires-clause-below : goal.chains_len-chains_len-requires-clause-below
+chains_len-chains_len-requires-clause-below g c =
     let is : AreLaid c.args.runs.now c.args.sites.now c.args.chains.now = record { runs = c.requires.runs; sites = c.requires.sites; once = c.requires.once; linked = c.requires.linked } in
     lens_below c.args.hooks.now c.args.runs.now c.args.sites.now c.args.chains.now c.as_slice.result.now is (c.as_slice.ensures ∙ c.in_ok-measured.ensures.lens)
 
-pub chains_len-requires-clause-room : goal.chains_len-requires-clause-room
-chains_len-requires-clause-room g c =
+pub chains_len-chains_len-requires-clause-room : goal.chains_len-chains_len-requires-clause-room
+chains_len-chains_len-requires-clause-room g c =
     let is : AreLaid c.args.runs.now c.args.sites.now c.args.chains.now = record { runs = c.requires.runs; sites = c.requires.sites; once = c.requires.once; linked = c.requires.linked } in
     omega (arith, lens_small c.args.hooks.now c.args.runs.now c.args.sites.now c.args.chains.now c.as_slice.result.now is (c.as_slice.ensures ∙ c.in_ok-measured.ensures.lens))
 
 pub overflow_add-code_len : goal.overflow_add-code_len
 overflow_add-code_len g c =
     let is : AreLaid c.args.runs.now c.args.sites.now c.args.chains.now = record { runs = c.requires.runs; sites = c.requires.sites; once = c.requires.once; linked = c.requires.linked } in
-    omega (arith, c.stub_len.ensures, c.requires.runs.few, c.chains_len.ensures, lens_small c.args.hooks.now c.args.runs.now c.args.sites.now c.args.chains.now c.as_slice.result.now is (c.as_slice.ensures ∙ c.in_ok-measured.ensures.lens))
+    omega (arith, c.stub_len.ensures, c.requires.runs.few, c.chains_len-chains_len.ensures, lens_small c.args.hooks.now c.args.runs.now c.args.sites.now c.args.chains.now c.as_slice.result.now is (c.as_slice.ensures ∙ c.in_ok-measured.ensures.lens))
 
 pub table_len-requires-clause-ascend : goal.table_len-requires-clause-ascend
 table_len-requires-clause-ascend g c =
     let is : AreLaid c.args.runs.now c.args.sites.now c.args.chains.now = record { runs = c.requires.runs; sites = c.requires.sites; once = c.requires.once; linked = c.requires.linked } in
-    subst (λ (l : List ℕ). Ascend 0 l) (sym (c.deref.ensures.value ∙ c.in_ok-sites_at.ensures)) (ascend c.args.runs.now c.args.sites.now c.args.chains.now is)
+    subst (λ (l : List ℕ). Ascend 0 l) (sym (c.as_slice-2.ensures ∙ c.in_ok-measured.ensures.addresses)) (ascend c.args.runs.now c.args.sites.now c.args.chains.now is)
 
 pub up-requires : goal.up-requires
 up-requires g c =
     let is : AreLaid c.args.runs.now c.args.sites.now c.args.chains.now = record { runs = c.requires.runs; sites = c.requires.sites; once = c.requires.once; linked = c.requires.linked } in
-    omega (arith, c.stub_len.ensures, c.requires.runs.few, c.chains_len.ensures, lens_small c.args.hooks.now c.args.runs.now c.args.sites.now c.args.chains.now c.as_slice.result.now is (c.as_slice.ensures ∙ c.in_ok-measured.ensures.lens))
+    omega (arith, c.stub_len.ensures, c.requires.runs.few, c.chains_len-chains_len.ensures, lens_small c.args.hooks.now c.args.runs.now c.args.sites.now c.args.chains.now c.as_slice.result.now is (c.as_slice.ensures ∙ c.in_ok-measured.ensures.lens))
 
 pub up-requires-2 : goal.up-requires-2
 up-requires-2 g c =
@@ -53,7 +53,7 @@ up-requires-2 g c =
 pub overflow_add-size : goal.overflow_add-size
 overflow_add-size g c =
     let is : AreLaid c.args.runs.now c.args.sites.now c.args.chains.now = record { runs = c.requires.runs; sites = c.requires.sites; once = c.requires.once; linked = c.requires.linked } in
-    omega (arith, c.up.ensures, c.up-2.ensures, c.stub_len.ensures, c.requires.runs.few, c.chains_len.ensures, lens_small c.args.hooks.now c.args.runs.now c.args.sites.now c.args.chains.now c.as_slice.result.now is (c.as_slice.ensures ∙ c.in_ok-measured.ensures.lens), c.from.type_inv, c.len-counters.ensures, ap (λ (l : List ℕ). length l) c.in_ok-measured.ensures.counted, counted_few c.args.hooks.now c.args.runs.now c.args.sites.now c.args.chains.now is)
+    omega (arith, c.up.ensures, c.up-2.ensures, c.stub_len.ensures, c.requires.runs.few, c.chains_len-chains_len.ensures, lens_small c.args.hooks.now c.args.runs.now c.args.sites.now c.args.chains.now c.as_slice.result.now is (c.as_slice.ensures ∙ c.in_ok-measured.ensures.lens), c.from.type_inv, c.len-counters.ensures, ap (λ (l : List ℕ). length l) c.in_ok-measured.ensures.counted, counted_few c.args.hooks.now c.args.runs.now c.args.sites.now c.args.chains.now is)
 
 pub overflow_add-counters : goal.overflow_add-counters
 overflow_add-counters g c =
@@ -68,14 +68,14 @@ up-requires-3 g c =
 pub overflow_add-size-2 : goal.overflow_add-size-2
 overflow_add-size-2 g c =
     let is : AreLaid c.args.runs.now c.args.sites.now c.args.chains.now = record { runs = c.requires.runs; sites = c.requires.sites; once = c.requires.once; linked = c.requires.linked } in
-    omega (arith, c.up.ensures, c.up-2.ensures, c.up-3.ensures, c.stub_len.ensures, c.requires.runs.few, c.chains_len.ensures, lens_small c.args.hooks.now c.args.runs.now c.args.sites.now c.args.chains.now c.as_slice.result.now is (c.as_slice.ensures ∙ c.in_ok-measured.ensures.lens), c.from.type_inv, c.len-counters.ensures, ap (λ (l : List ℕ). length l) c.in_ok-measured.ensures.counted, counted_few c.args.hooks.now c.args.runs.now c.args.sites.now c.args.chains.now is)
+    omega (arith, c.up.ensures, c.up-2.ensures, c.up-3.ensures, c.stub_len.ensures, c.requires.runs.few, c.chains_len-chains_len.ensures, lens_small c.args.hooks.now c.args.runs.now c.args.sites.now c.args.chains.now c.as_slice.result.now is (c.as_slice.ensures ∙ c.in_ok-measured.ensures.lens), c.from.type_inv, c.len-counters.ensures, ap (λ (l : List ℕ). length l) c.in_ok-measured.ensures.counted, counted_few c.args.hooks.now c.args.runs.now c.args.sites.now c.args.chains.now is)
 
 pub lay_at-requires-clause-base_is : goal.lay_at-requires-clause-base_is
 lay_at-requires-clause-base_is g c =
     let is : AreLaid c.args.runs.now c.args.sites.now c.args.chains.now = record { runs = c.requires.runs; sites = c.requires.sites; once = c.requires.once; linked = c.requires.linked } in
     let len = lens_room c.args.hooks.now c.args.chains.now c.args.sites.now c.as_slice.result.now (c.as_slice.ensures ∙ c.in_ok-measured.ensures.lens) in
-    let table = ap (table_size c.args.runs.now) (c.deref.ensures.value ∙ c.in_ok-sites_at.ensures) in
-    let same : c.up.result + c.up-2.result + c.up-3.result ≡ size c.args.hooks.now c.args.runs.now c.args.sites.now c.args.chains.now = omega (arith, size_is c.args.hooks.now c.args.runs.now c.args.sites.now c.args.chains.now is, c.up.ensures, c.up-2.ensures, c.up-3.ensures, c.stub_len.ensures, c.chains_len.ensures, len, c.from.ensures, c.table_len.ensures, table, c.len-counters.ensures, ap (λ (l : List ℕ). length l) c.in_ok-measured.ensures.counted) in
+    let table = ap (table_size c.args.runs.now) (c.as_slice-2.ensures ∙ c.in_ok-measured.ensures.addresses) in
+    let same : c.up.result + c.up-2.result + c.up-3.result ≡ size c.args.hooks.now c.args.runs.now c.args.sites.now c.args.chains.now = omega (arith, size_is c.args.hooks.now c.args.runs.now c.args.sites.now c.args.chains.now is, c.up.ensures, c.up-2.ensures, c.up-3.ensures, c.stub_len.ensures, c.chains_len-chains_len.ensures, len, c.from.ensures, c.table_len.ensures, table, c.len-counters.ensures, ap (λ (l : List ℕ). length l) c.in_ok-measured.ensures.counted) in
     ap (first_fit c.args.image.now.segments) (sym same) ∙ sym c.in-Some.ensures
 
 pub returns-in_ok-plan-in-Some-clause-ascends : goal.returns-in_ok-plan-in-Some-clause-ascends
@@ -87,6 +87,6 @@ pub returns-in-None-clause-laid : goal.returns-in-None-clause-laid
 returns-in-None-clause-laid g c =
     let is : AreLaid c.args.runs.now c.args.sites.now c.args.chains.now = record { runs = c.requires.runs; sites = c.requires.sites; once = c.requires.once; linked = c.requires.linked } in
     let len = lens_room c.args.hooks.now c.args.chains.now c.args.sites.now c.as_slice.result.now (c.as_slice.ensures ∙ c.in_ok-measured.ensures.lens) in
-    let table = ap (table_size c.args.runs.now) (c.deref.ensures.value ∙ c.in_ok-sites_at.ensures) in
-    let same : c.up.result + c.up-2.result + c.up-3.result ≡ size c.args.hooks.now c.args.runs.now c.args.sites.now c.args.chains.now = omega (arith, size_is c.args.hooks.now c.args.runs.now c.args.sites.now c.args.chains.now is, c.up.ensures, c.up-2.ensures, c.up-3.ensures, c.stub_len.ensures, c.chains_len.ensures, len, c.from.ensures, c.table_len.ensures, table, c.len-counters.ensures, ap (λ (l : List ℕ). length l) c.in_ok-measured.ensures.counted) in
+    let table = ap (table_size c.args.runs.now) (c.as_slice-2.ensures ∙ c.in_ok-measured.ensures.addresses) in
+    let same : c.up.result + c.up-2.result + c.up-3.result ≡ size c.args.hooks.now c.args.runs.now c.args.sites.now c.args.chains.now = omega (arith, size_is c.args.hooks.now c.args.runs.now c.args.sites.now c.args.chains.now is, c.up.ensures, c.up-2.ensures, c.up-3.ensures, c.stub_len.ensures, c.chains_len-chains_len.ensures, len, c.from.ensures, c.table_len.ensures, table, c.len-counters.ensures, ap (λ (l : List ℕ). length l) c.in_ok-measured.ensures.counted) in
     (ap (first_fit c.args.image.now.segments) (sym same) ∙ sym c.in-None.ensures, same)

@@ -13,16 +13,6 @@ use Rattle.image_layout.specs.laws.InPlacing.{has_pieces}
 use Rattle.image_layout.proofs.Laying.{lens_below, lens_small, lens_room, made_is, table_is, code_is, has_parts, plan_is}
 use Rattle.image_layout.proofs.layout.lay_at.Goals as goal
 
-pub chains_len-chains_len-requires-clause-below : goal.chains_len-chains_len-requires-clause-below
-chains_len-chains_len-requires-clause-below g c =
-    let is : AreLaid c.args.runs.now c.args.sites.now c.args.chains.now = record { runs = c.requires.runs; sites = c.requires.sites; once = c.requires.once; linked = c.requires.linked } in
-    lens_below c.args.hooks.now c.args.runs.now c.args.sites.now c.args.chains.now c.as_slice.result.now is (c.as_slice.ensures ∙ c.requires.measured.lens)
-
-pub chains_len-chains_len-requires-clause-room : goal.chains_len-chains_len-requires-clause-room
-chains_len-chains_len-requires-clause-room g c =
-    let is : AreLaid c.args.runs.now c.args.sites.now c.args.chains.now = record { runs = c.requires.runs; sites = c.requires.sites; once = c.requires.once; linked = c.requires.linked } in
-    omega (arith, lens_small c.args.hooks.now c.args.runs.now c.args.sites.now c.args.chains.now c.as_slice.result.now is (c.as_slice.ensures ∙ c.requires.measured.lens))
-
 pub overflow_add-first : goal.overflow_add-first
 overflow_add-first g c =
     let is : AreLaid c.args.runs.now c.args.sites.now c.args.chains.now = record { runs = c.requires.runs; sites = c.requires.sites; once = c.requires.once; linked = c.requires.linked } in
@@ -43,29 +33,29 @@ entry_pairs-requires-clause-room g c =
 pub overflow_add-stub_len : goal.overflow_add-stub_len
 overflow_add-stub_len g c =
     let is : AreLaid c.args.runs.now c.args.sites.now c.args.chains.now = record { runs = c.requires.runs; sites = c.requires.sites; once = c.requires.once; linked = c.requires.linked } in
-    omega (arith, c.stub_len-stub_len.ensures, c.requires.runs.few, c.chains_len-chains_len.ensures, lens_small c.args.hooks.now c.args.runs.now c.args.sites.now c.args.chains.now c.as_slice.result.now is (c.as_slice.ensures ∙ c.requires.measured.lens))
+    omega (arith, c.stub_len-stub_len.ensures, c.requires.runs.few, c.requires.chains_len, lens_small c.args.hooks.now c.args.runs.now c.args.sites.now c.args.chains.now c.args.measured.lens is c.requires.measured.lens)
 
 pub up-requires : goal.up-requires
 up-requires g c =
     let is : AreLaid c.args.runs.now c.args.sites.now c.args.chains.now = record { runs = c.requires.runs; sites = c.requires.sites; once = c.requires.once; linked = c.requires.linked } in
-    omega (arith, c.stub_len-stub_len.ensures, c.requires.runs.few, c.chains_len-chains_len.ensures, lens_small c.args.hooks.now c.args.runs.now c.args.sites.now c.args.chains.now c.as_slice.result.now is (c.as_slice.ensures ∙ c.requires.measured.lens))
+    omega (arith, c.stub_len-stub_len.ensures, c.requires.runs.few, c.requires.chains_len, lens_small c.args.hooks.now c.args.runs.now c.args.sites.now c.args.chains.now c.args.measured.lens is c.requires.measured.lens)
 
 pub overflow_cast-lo : goal.overflow_cast-lo
 overflow_cast-lo g c =
     let is : AreLaid c.args.runs.now c.args.sites.now c.args.chains.now = record { runs = c.requires.runs; sites = c.requires.sites; once = c.requires.once; linked = c.requires.linked } in
-    omega (arith, c.up.ensures, c.stub_len-stub_len.ensures, c.requires.runs.few, c.chains_len-chains_len.ensures, lens_small c.args.hooks.now c.args.runs.now c.args.sites.now c.args.chains.now c.as_slice.result.now is (c.as_slice.ensures ∙ c.requires.measured.lens))
+    omega (arith, c.up.ensures, c.stub_len-stub_len.ensures, c.requires.runs.few, c.requires.chains_len, lens_small c.args.hooks.now c.args.runs.now c.args.sites.now c.args.chains.now c.args.measured.lens is c.requires.measured.lens)
 
 pub overflow_add-lo : goal.overflow_add-lo
 overflow_add-lo g c =
     let is : AreLaid c.args.runs.now c.args.sites.now c.args.chains.now = record { runs = c.requires.runs; sites = c.requires.sites; once = c.requires.once; linked = c.requires.linked } in
     let has = has_base c.args.hooks.now c.args.runs.now c.args.sites.now c.args.chains.now is c.args.image.now.segments c.args.base c.requires.base_is in
-    omega (arith, c.up.ensures, c.stub_len-stub_len.ensures, c.chains_len-chains_len.ensures, has.low, lens_room c.args.hooks.now c.args.chains.now c.args.sites.now c.as_slice.result.now (c.as_slice.ensures ∙ c.requires.measured.lens))
+    omega (arith, c.up.ensures, c.stub_len-stub_len.ensures, c.requires.chains_len, has.low, lens_room c.args.hooks.now c.args.chains.now c.args.sites.now c.args.measured.lens c.requires.measured.lens)
 
 pub build-requires : goal.build-requires
 build-requires g c =
     let is : AreLaid c.args.runs.now c.args.sites.now c.args.chains.now = record { runs = c.requires.runs; sites = c.requires.sites; once = c.requires.once; linked = c.requires.linked } in
     let has = has_base c.args.hooks.now c.args.runs.now c.args.sites.now c.args.chains.now is c.args.image.now.segments c.args.base c.requires.base_is in
-    let room_is : c.up.result ≡ up (code_len c.args.hooks.now c.args.runs.now c.args.sites.now c.args.chains.now) = omega (arith, c.up.ensures, c.stub_len-stub_len.ensures, c.chains_len-chains_len.ensures, lens_room c.args.hooks.now c.args.chains.now c.args.sites.now c.as_slice.result.now (c.as_slice.ensures ∙ c.requires.measured.lens)) in
+    let room_is : c.up.result ≡ up (code_len c.args.hooks.now c.args.runs.now c.args.sites.now c.args.chains.now) = omega (arith, c.up.ensures, c.stub_len-stub_len.ensures, c.requires.chains_len, lens_room c.args.hooks.now c.args.chains.now c.args.sites.now c.args.measured.lens c.requires.measured.lens) in
     made_is c.args.hooks.now c.args.runs.now c.args.sites.now c.args.chains.now is c.args.base c.stub_len-stub_len.result c.up.result c.deref.result.now has c.stub_len-stub_len.ensures (c.deref.ensures.value ∙ c.in_ok-pairs.ensures) room_is
 
 pub up-requires-2 : goal.up-requires-2
@@ -86,7 +76,7 @@ pub overflow_add-anchors : goal.overflow_add-anchors
 overflow_add-anchors g c =
     let is : AreLaid c.args.runs.now c.args.sites.now c.args.chains.now = record { runs = c.requires.runs; sites = c.requires.sites; once = c.requires.once; linked = c.requires.linked } in
     let has = has_base c.args.hooks.now c.args.runs.now c.args.sites.now c.args.chains.now is c.args.image.now.segments c.args.base c.requires.base_is in
-    let room_is : c.up.result ≡ up (code_len c.args.hooks.now c.args.runs.now c.args.sites.now c.args.chains.now) = omega (arith, c.up.ensures, c.stub_len-stub_len.ensures, c.chains_len-chains_len.ensures, lens_room c.args.hooks.now c.args.chains.now c.args.sites.now c.as_slice.result.now (c.as_slice.ensures ∙ c.requires.measured.lens)) in
+    let room_is : c.up.result ≡ up (code_len c.args.hooks.now c.args.runs.now c.args.sites.now c.args.chains.now) = omega (arith, c.up.ensures, c.stub_len-stub_len.ensures, c.requires.chains_len, lens_room c.args.hooks.now c.args.chains.now c.args.sites.now c.args.measured.lens c.requires.measured.lens) in
     let table = table_is c.args.hooks.now c.args.runs.now c.args.sites.now c.args.chains.now c.args.base c.stub_len-stub_len.result c.up.result c.deref.result.now c.in_ok-table.table c.stub_len-stub_len.ensures (c.deref.ensures.value ∙ c.in_ok-pairs.ensures) c.in_ok-table.ensures in
     omega (arith, room_is, c.up-2.ensures, c.bytes.ensures.len, table, c.len.ensures, ap (λ (l : List ℕ). length l) c.requires.measured.counted, has.low)
 
@@ -116,7 +106,7 @@ pub put_chains-requires-clause-counters : goal.put_chains-requires-clause-counte
 put_chains-requires-clause-counters g c =
     let is : AreLaid c.args.runs.now c.args.sites.now c.args.chains.now = record { runs = c.requires.runs; sites = c.requires.sites; once = c.requires.once; linked = c.requires.linked } in
     let has = has_base c.args.hooks.now c.args.runs.now c.args.sites.now c.args.chains.now is c.args.image.now.segments c.args.base c.requires.base_is in
-    let room_is : c.up.result ≡ up (code_len c.args.hooks.now c.args.runs.now c.args.sites.now c.args.chains.now) = omega (arith, c.up.ensures, c.stub_len-stub_len.ensures, c.chains_len-chains_len.ensures, lens_room c.args.hooks.now c.args.chains.now c.args.sites.now c.as_slice.result.now (c.as_slice.ensures ∙ c.requires.measured.lens)) in
+    let room_is : c.up.result ≡ up (code_len c.args.hooks.now c.args.runs.now c.args.sites.now c.args.chains.now) = omega (arith, c.up.ensures, c.stub_len-stub_len.ensures, c.requires.chains_len, lens_room c.args.hooks.now c.args.chains.now c.args.sites.now c.args.measured.lens c.requires.measured.lens) in
     let table = table_is c.args.hooks.now c.args.runs.now c.args.sites.now c.args.chains.now c.args.base c.stub_len-stub_len.result c.up.result c.deref.result.now c.in_ok-table.table c.stub_len-stub_len.ensures (c.deref.ensures.value ∙ c.in_ok-pairs.ensures) c.in_ok-table.ensures in
     omega (arith, room_is, c.up-2.ensures, c.bytes.ensures.len, table, c.len.ensures, ap (λ (l : List ℕ). length l) c.requires.measured.counted, has.low, count c.args.runs.now c.args.sites.now c.args.chains.now is)
 
@@ -130,7 +120,7 @@ put_chains-requires-clause-room g c =
 
 pub returns-clause-laid : goal.returns-clause-laid
 returns-clause-laid g c =
-    let room_is : c.up.result ≡ up (code_len c.args.hooks.now c.args.runs.now c.args.sites.now c.args.chains.now) = omega (arith, c.up.ensures, c.stub_len-stub_len.ensures, c.chains_len-chains_len.ensures, lens_room c.args.hooks.now c.args.chains.now c.args.sites.now c.as_slice.result.now (c.as_slice.ensures ∙ c.requires.measured.lens)) in
+    let room_is : c.up.result ≡ up (code_len c.args.hooks.now c.args.runs.now c.args.sites.now c.args.chains.now) = omega (arith, c.up.ensures, c.stub_len-stub_len.ensures, c.requires.chains_len, lens_room c.args.hooks.now c.args.chains.now c.args.sites.now c.args.measured.lens c.requires.measured.lens) in
     let there = c.deref-2.ensures.value ∙ c.in_ok-run_places.ensures in
     let front = c.in_ok-reserve.ensures.items ∙ c.in_ok-code.ensures in
     let list = c.len.ensures ∙ ap (λ (l : List ℕ). length l) c.requires.measured.counted in

@@ -3,8 +3,8 @@ use Rattle.image_layout.specs.Parts.{parts, parts_len}
 use Rattle.image_layout.specs.Sites.{AreBelow}
 use Rattle.image_layout.proofs.places.chains_len.Given as goal
 
-abbrev pub invariant-loop-chain : goal.invariant-loop-chain
-invariant-loop-chain l = record {
-  whole : l.len + parts_len l.lens (parts (drop l.chain-index l.chains)) ≡ parts_len l.lens (parts l.chains);
-  below : AreBelow (length l.lens) (drop l.chain-index l.chains);
+abbrev pub invariant-loop-number : goal.invariant-loop-number
+invariant-loop-number l = record {
+  whole : l.len + parts_len l.lens (parts (drop l.number l.chains)) ≡ parts_len l.lens (parts l.chains);
+  below : AreBelow (length l.lens) (drop l.number l.chains);
 }

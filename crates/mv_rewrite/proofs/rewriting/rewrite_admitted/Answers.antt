@@ -27,15 +27,15 @@ lay-requires-clause-runs g c = subst AreRuns (sym (c.deref-3.ensures.value ∙ c
 pub returns-in_err-plan-clause-rewritten : goal.returns-in_err-plan-clause-rewritten
 returns-in_err-plan-clause-rewritten g c =
     let found : c.in_ok-sites.sites.items ≡ sites c.args.bytes.now = sites_are c.args.bytes.now c.deref.result.now c.in_ok-sites.sites.items c.requires.image.whole (c.deref.ensures.value ∙ c.in_ok-runs.ensures.list) c.in_ok-sites.ensures.listed in
-    let of : AreOf c.args.bytes.now c.args.image.now c.deref-3.result.now c.deref-4.result.now c.deref-5.result.now =
+    let of : AreOf c.args.bytes.now c.args.image.now c.deref-3.result.now c.deref-4.result.now c.in_ok-chains.chains =
     record {
       image_is = c.requires.image;
       runs_are = c.deref-3.ensures.value ∙ c.in_ok-runs.ensures.list;
       sites_are = c.deref-4.ensures.value ∙ found;
-      chains_are = c.deref-5.ensures.value ∙ (c.in_ok-chains.ensures.exact ∙ ap chains_of (c.deref-2.ensures.value ∙ found));
+      chains_are = c.in_ok-chains.ensures.exact ∙ ap chains_of (c.deref-2.ensures.value ∙ found);
     } in
     let p = err_from_is_err_and c.from_residual-in_err-plan.result c.from_residual-in_err-plan.ensures.1 in
-    rw p.1 (laid_passes c.args.bytes.now c.args.hooks.now c.args.image.now c.deref-3.result.now c.deref-4.result.now c.deref-5.result.now _ p.0 of (no_refusal c.args.bytes.now c.requires.image.whole c.requires.admitted) c.in_err-plan.ensures.laid p.2)
+    rw p.1 (laid_passes c.args.bytes.now c.args.hooks.now c.args.image.now c.deref-3.result.now c.deref-4.result.now c.in_ok-chains.chains _ p.0 of (no_refusal c.args.bytes.now c.requires.image.whole c.requires.admitted) c.in_err-plan.ensures.laid p.2)
 
 pub write_image-requires-clause-headers : goal.write_image-requires-clause-headers
 write_image-requires-clause-headers g c = few_headers c.args.bytes.now c.args.image.now.headers c.requires.admitted c.requires.image.headers_are
@@ -43,27 +43,27 @@ write_image-requires-clause-headers g c = few_headers c.args.bytes.now c.args.im
 pub write_image-requires-clause-runs : goal.write_image-requires-clause-runs
 write_image-requires-clause-runs g c =
     let found : c.in_ok-sites.sites.items ≡ sites c.args.bytes.now = sites_are c.args.bytes.now c.deref.result.now c.in_ok-sites.sites.items c.requires.image.whole (c.deref.ensures.value ∙ c.in_ok-runs.ensures.list) c.in_ok-sites.ensures.listed in
-    let of : AreOf c.args.bytes.now c.args.image.now c.deref-3.result.now c.deref-4.result.now c.deref-5.result.now =
+    let of : AreOf c.args.bytes.now c.args.image.now c.deref-3.result.now c.deref-4.result.now c.in_ok-chains.chains =
     record {
       image_is = c.requires.image;
       runs_are = c.deref-3.ensures.value ∙ c.in_ok-runs.ensures.list;
       sites_are = c.deref-4.ensures.value ∙ found;
-      chains_are = c.deref-5.ensures.value ∙ (c.in_ok-chains.ensures.exact ∙ ap chains_of (c.deref-2.ensures.value ∙ found));
+      chains_are = c.in_ok-chains.ensures.exact ∙ ap chains_of (c.deref-2.ensures.value ∙ found);
     } in
-    few_runs c.args.bytes.now c.args.hooks.now c.in_ok-plan.plan c.requires.admitted (planned c.args.bytes.now c.args.hooks.now c.args.image.now c.deref-3.result.now c.deref-4.result.now c.deref-5.result.now c.in_ok-plan.plan of c.in_ok-plan.ensures.laid)
+    few_runs c.args.bytes.now c.args.hooks.now c.in_ok-plan.plan c.requires.admitted (planned c.args.bytes.now c.args.hooks.now c.args.image.now c.deref-3.result.now c.deref-4.result.now c.in_ok-chains.chains c.in_ok-plan.plan of c.in_ok-plan.ensures.laid)
 
 pub write_image-requires-clause-block : goal.write_image-requires-clause-block
 write_image-requires-clause-block g c =
     let found : c.in_ok-sites.sites.items ≡ sites c.args.bytes.now = sites_are c.args.bytes.now c.deref.result.now c.in_ok-sites.sites.items c.requires.image.whole (c.deref.ensures.value ∙ c.in_ok-runs.ensures.list) c.in_ok-sites.ensures.listed in
-    let of : AreOf c.args.bytes.now c.args.image.now c.deref-3.result.now c.deref-4.result.now c.deref-5.result.now =
+    let of : AreOf c.args.bytes.now c.args.image.now c.deref-3.result.now c.deref-4.result.now c.in_ok-chains.chains =
     record {
       image_is = c.requires.image;
       runs_are = c.deref-3.ensures.value ∙ c.in_ok-runs.ensures.list;
       sites_are = c.deref-4.ensures.value ∙ found;
-      chains_are = c.deref-5.ensures.value ∙ (c.in_ok-chains.ensures.exact ∙ ap chains_of (c.deref-2.ensures.value ∙ found));
+      chains_are = c.in_ok-chains.ensures.exact ∙ ap chains_of (c.deref-2.ensures.value ∙ found);
     } in
     ends_low c.args.bytes.now c.args.hooks.now c.in_ok-plan.plan (are_laid c.args.bytes.now c.requires.image.whole c.requires.admitted)
-    (planned c.args.bytes.now c.args.hooks.now c.args.image.now c.deref-3.result.now c.deref-4.result.now c.deref-5.result.now c.in_ok-plan.plan of c.in_ok-plan.ensures.laid)
+    (planned c.args.bytes.now c.args.hooks.now c.args.image.now c.deref-3.result.now c.deref-4.result.now c.in_ok-chains.chains c.in_ok-plan.plan of c.in_ok-plan.ensures.laid)
 
 pub overflow_cast-result : goal.overflow_cast-result
 overflow_cast-result g c =
@@ -74,40 +74,40 @@ overflow_cast-result g c =
 pub overflow_cast-result-2 : goal.overflow_cast-result-2
 overflow_cast-result-2 g c =
     let found : c.in_ok-sites.sites.items ≡ sites c.args.bytes.now = sites_are c.args.bytes.now c.deref.result.now c.in_ok-sites.sites.items c.requires.image.whole (c.deref.ensures.value ∙ c.in_ok-runs.ensures.list) c.in_ok-sites.ensures.listed in
-    let of : AreOf c.args.bytes.now c.args.image.now c.deref-3.result.now c.deref-4.result.now c.deref-5.result.now =
+    let of : AreOf c.args.bytes.now c.args.image.now c.deref-3.result.now c.deref-4.result.now c.in_ok-chains.chains =
     record {
       image_is = c.requires.image;
       runs_are = c.deref-3.ensures.value ∙ c.in_ok-runs.ensures.list;
       sites_are = c.deref-4.ensures.value ∙ found;
-      chains_are = c.deref-5.ensures.value ∙ (c.in_ok-chains.ensures.exact ∙ ap chains_of (c.deref-2.ensures.value ∙ found));
+      chains_are = c.in_ok-chains.ensures.exact ∙ ap chains_of (c.deref-2.ensures.value ∙ found);
     } in
-    let is = planned c.args.bytes.now c.args.hooks.now c.args.image.now c.deref-3.result.now c.deref-4.result.now c.deref-5.result.now c.in_ok-plan.plan of c.in_ok-plan.ensures.laid in
+    let is = planned c.args.bytes.now c.args.hooks.now c.args.image.now c.deref-3.result.now c.deref-4.result.now c.in_ok-chains.chains c.in_ok-plan.plan of c.in_ok-plan.ensures.laid in
     let few = counted_few c.args.hooks.now (runs_of c.args.bytes.now) (sites c.args.bytes.now) (chains c.args.bytes.now) (are_laid c.args.bytes.now c.requires.image.whole c.requires.admitted) in
     omega (arith, few, c.len-2.ensures, counted_are c.args.bytes.now c.args.hooks.now c.in_ok-plan.plan is)
 
 pub added-requires-clause-planned : goal.added-requires-clause-planned
 added-requires-clause-planned g c =
     let found : c.in_ok-sites.sites.items ≡ sites c.args.bytes.now = sites_are c.args.bytes.now c.deref.result.now c.in_ok-sites.sites.items c.requires.image.whole (c.deref.ensures.value ∙ c.in_ok-runs.ensures.list) c.in_ok-sites.ensures.listed in
-    let of : AreOf c.args.bytes.now c.args.image.now c.deref-3.result.now c.deref-4.result.now c.deref-5.result.now =
+    let of : AreOf c.args.bytes.now c.args.image.now c.deref-3.result.now c.deref-4.result.now c.in_ok-chains.chains =
     record {
       image_is = c.requires.image;
       runs_are = c.deref-3.ensures.value ∙ c.in_ok-runs.ensures.list;
       sites_are = c.deref-4.ensures.value ∙ found;
-      chains_are = c.deref-5.ensures.value ∙ (c.in_ok-chains.ensures.exact ∙ ap chains_of (c.deref-2.ensures.value ∙ found));
+      chains_are = c.in_ok-chains.ensures.exact ∙ ap chains_of (c.deref-2.ensures.value ∙ found);
     } in
-    planned c.args.bytes.now c.args.hooks.now c.args.image.now c.deref-3.result.now c.deref-4.result.now c.deref-5.result.now c.in_ok-plan.plan of c.in_ok-plan.ensures.laid
+    planned c.args.bytes.now c.args.hooks.now c.args.image.now c.deref-3.result.now c.deref-4.result.now c.in_ok-chains.chains c.in_ok-plan.plan of c.in_ok-plan.ensures.laid
 
 pub returns-clause-rewritten : goal.returns-clause-rewritten
 returns-clause-rewritten g c =
     let found : c.in_ok-sites.sites.items ≡ sites c.args.bytes.now = sites_are c.args.bytes.now c.deref.result.now c.in_ok-sites.sites.items c.requires.image.whole (c.deref.ensures.value ∙ c.in_ok-runs.ensures.list) c.in_ok-sites.ensures.listed in
-    let of : AreOf c.args.bytes.now c.args.image.now c.deref-3.result.now c.deref-4.result.now c.deref-5.result.now =
+    let of : AreOf c.args.bytes.now c.args.image.now c.deref-3.result.now c.deref-4.result.now c.in_ok-chains.chains =
     record {
       image_is = c.requires.image;
       runs_are = c.deref-3.ensures.value ∙ c.in_ok-runs.ensures.list;
       sites_are = c.deref-4.ensures.value ∙ found;
-      chains_are = c.deref-5.ensures.value ∙ (c.in_ok-chains.ensures.exact ∙ ap chains_of (c.deref-2.ensures.value ∙ found));
+      chains_are = c.in_ok-chains.ensures.exact ∙ ap chains_of (c.deref-2.ensures.value ∙ found);
     } in
-    let is = planned c.args.bytes.now c.args.hooks.now c.args.image.now c.deref-3.result.now c.deref-4.result.now c.deref-5.result.now c.in_ok-plan.plan of c.in_ok-plan.ensures.laid in
+    let is = planned c.args.bytes.now c.args.hooks.now c.args.image.now c.deref-3.result.now c.deref-4.result.now c.in_ok-chains.chains c.in_ok-plan.plan of c.in_ok-plan.ensures.laid in
     record {
       whole = no_refusal c.args.bytes.now c.requires.image.whole c.requires.admitted;
       bytes = output_is c.args.bytes.now c.args.hooks.now c.in_ok-plan.plan is ∙ ap (λ (x : List ℕ). Some x) (sym (c.new.ensures ∙ c.in_ok-file.ensures.file));
@@ -118,4 +118,4 @@ returns-clause-rewritten g c =
     }
 
 pub returns-clause-bytes : goal.returns-clause-bytes
-returns-clause-bytes g c = subst (λ (l : List ℕ). AreBytes l) (c.deref-6.ensures.value ∙ sym c.new.ensures) c.are_bytes.ensures
+returns-clause-bytes g c = subst (λ (l : List ℕ). AreBytes l) (c.deref-5.ensures.value ∙ sym c.new.ensures) c.are_bytes.ensures
