@@ -9,7 +9,7 @@ use Rattle.sequence_join.specs.Chains.{Chain}
 -- a site's instruction has at most 15 bytes, and its operand is loaded by at most 7
 pub record IsShort (s : Site) : Type 0 where
   pub short : s.len ≤ 15
-  pub load : length (load_of s.insn) ≤ 7
+  pub load : length (load_of s.insn) ≤ 8
 
 abbrev pub AreShort : List Site → Type 0
 AreShort ss = (k : ℕ) → IfSome (slice_get ss k) IsShort

@@ -81,7 +81,7 @@ fn site_len(site: &Site, is_counted: bool) -> u8
 fn piece_len(site: &Site) -> u8
     requires { IsShort site.now }
     ensures is { result ≡ piece_len_of site.now }
-    ensures few { result ≤ 32 }
+    ensures few { result ≤ 33 }
 {
     match site.insn.next_kind() {
         Flow::Plain | Flow::System | Flow::Trap => site.len,

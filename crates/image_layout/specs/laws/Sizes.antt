@@ -72,8 +72,8 @@ lens_at rule [] k s e = absurd (none-some s e)
 lens_at rule (q ∷ ss) zero s e = ap (site_len rule) (same_Some q s e)
 lens_at rule (q ∷ ss) (suc k) s e = lens_at rule ss k s e
 
--- a piece has at most 32 bytes
-by_flow_most : (f : Flow) (s : Site) → IsShort s → len_by f s ≤ 32
+-- a piece has at most 33 bytes
+by_flow_most : (f : Flow) (s : Site) → IsShort s → len_by f s ≤ 33
 by_flow_most flow.Plain s is = omega (arith, is.short)
 by_flow_most flow.System s is = omega (arith, is.short)
 by_flow_most flow.Trap s is = omega (arith, is.short)
@@ -85,7 +85,7 @@ by_flow_most flow.JumpVia s is = omega (arith, far_sized (load_of s.insn) s.insn
 by_flow_most flow.CallVia s is = omega (arith, far_sized (load_of s.insn) s.insn 0 0 0 0, far_most (load_of s.insn) s.insn 0 0 0 0 is.load)
 by_flow_most flow.Return s is = omega (arith, far_sized (load_of s.insn) s.insn 0 0 0 0, far_most (load_of s.insn) s.insn 0 0 0 0 is.load)
 
-pub piece_most : (s : Site) → IsShort s → piece_len s ≤ 32
+pub piece_most : (s : Site) → IsShort s → piece_len s ≤ 33
 piece_most s is = by_flow_most (flow_of s.insn) s is
 
 lens_past : (rule : Rule) (ss : List Site) (k : ℕ) → slice_get ss k ≡ None → slice_index (code_lens rule ss) k ≡ 0
@@ -97,11 +97,11 @@ counter_most : (t : Bool) → counter_len t ≤ 46
 counter_most true = omega arith
 counter_most false = omega arith
 
-most_at : (rule : Rule) (ss : List Site) (k : ℕ) (o : Option Site) → slice_get ss k ≡ o → IfSome o IsShort → slice_index (code_lens rule ss) k ≤ 78
+most_at : (rule : Rule) (ss : List Site) (k : ℕ) (o : Option Site) → slice_get ss k ≡ o → IfSome o IsShort → slice_index (code_lens rule ss) k ≤ 79
 most_at rule ss k None e is = omega (arith, lens_past rule ss k e)
 most_at rule ss k (Some s) e is = omega (arith, lens_at rule ss k s e, counter_most (picked rule s), by_flow_most (flow_of s.insn) s is)
 
-pub lens_most : (rule : Rule) (ss : List Site) → AreShort ss → (k : ℕ) → slice_index (code_lens rule ss) k ≤ 78
+pub lens_most : (rule : Rule) (ss : List Site) → AreShort ss → (k : ℕ) → slice_index (code_lens rule ss) k ≤ 79
 lens_most rule ss short k = most_at rule ss k (slice_get ss k) refl (short k)
 
 -- the counters of sites have as many bytes as is said of the sites
