@@ -1,12 +1,10 @@
 -- The addresses of sites, and the places of runs, one by one.
 use Rattle.std.proofs.Common.{◌≡◌, ℕ, zero, suc, ◌+◌, ◌*◌, ◌<◌, ◌≤◌, List, [], ◌∷◌, ◌++◌, length, get_or, take, map, sym, ap, ◌∙◌, arith}
-use Rattle.std.proofs.lemmas.List.{take_more, take_all, length-map, map-append}
+use Rattle.std.proofs.lemmas.List.{take_more, take_all, length-map}
 use Rattle.mv_base.specs.declared.range.RunPlace.{RunPlace}
 use Rattle.mv_base.specs.Table.{group_count}
 use Rattle.elf32_read.specs.declared.run.Run.{Run}
 use Rattle.map_table.specs.Paged as paged
-use Rattle.superset.specs.declared.site.Site.{Site}
-use Rattle.image_layout.specs.laws.SiteFacts.{site_address}
 use Rattle.image_layout.specs.laws.Blocks.{length-run_places}
 
 -- ---- the places of runs

@@ -1,6 +1,8 @@
 //! An output one step at a time: each of its states shows what its input shows before a step or after it.
 
-ghost use Rattle.std.specs.Prelude.{◌≤◌, ◌+◌, length};
+ghost use Rattle.std.specs.Prelude.{◌≡◌, ◌≤◌, ◌+◌, length};
+ghost use Rattle.x86_machine.specs.Stepping.{HasRoom};
+ghost use Rattle.x86_machine.specs.declared.machine.Outcome.TheVariants.{Next};
 
 use crate::run::run;
 use crate::tests::{file_of, strings};
@@ -26,13 +28,16 @@ const OUTPUT_STEPS: u32 = 36;
 /// The code, and the stack from 64 bytes below its first place on: the first address of each, and how many bytes.
 const SHOWN: [(u32, u32); 2] = [(0x0804_8050, 24), (0xbfff_efa0, 0x60)];
 
-/// A machine on its way, with the answers of its log: it has room for a call for each that is left.
+/// A machine on its way, with the answers of its log and the outcome of its last step: it has room for a call for each answer
+/// that is left, and until it stops for their descriptors.
 #[derive(Drop)]
 struct Walk<'a> {
     machine: Machine,
     answers: Answers<'a>,
+    last: Outcome,
     ghost next: { answers.next ≤ length answers.log.now.answers },
     ghost room: { length answers.log.now.answers ≤ machine.calls.spare + answers.next },
+    ghost descs: { last ≡ Next → HasRoom machine answers.log.now answers.next },
 }
 
 impl<'a> Walk<'a> {
@@ -41,11 +46,20 @@ impl<'a> Walk<'a> {
         let image = read_image(alloc, file).ok().ok_or("an image")?;
         let machine = Machine::start(alloc, &image, file, log)?;
         let answers = Answers { log, next: 0 };
-        Ok(Walk { machine, answers })
+        let last = Outcome::Next;
+        Ok(Walk {
+            machine,
+            answers,
+            last,
+        })
     }
 
+    /// One step; a machine that has stopped makes no other.
     fn step(&mut self) -> Outcome {
-        self.machine.step(&mut self.answers)
+        if matches!(self.last, Outcome::Next) {
+            self.last = self.machine.step(&mut self.answers);
+        }
+        self.last
     }
 
     /// What it shows at an address: the byte there, or none, and whether it can be written.

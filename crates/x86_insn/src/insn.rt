@@ -63,13 +63,13 @@ impl Reg {
     }
 }
 
-/// A memory operand: base, index with its factor (1, 2, 4 or 8) and displacement, and whether GS's base is added.
+/// A memory operand: base, index with its factor (1, 2, 4 or 8), whether GS's base is added, and displacement.
 #[derive(Clone, Copy)]
 pub struct Mem {
     pub base: Option<Reg>,
     pub index: Option<(Reg, u8)>,
-    pub disp: u32,
     pub gs: bool,
+    pub disp: u32,
 }
 
 /// An operand that a ModRM byte names.

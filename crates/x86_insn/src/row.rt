@@ -234,6 +234,7 @@ impl Form {
     ghost use Rattle.x86_insn.specs.Spelling.{takes_gs, takes_marks};
 
     /// Whether prefixes that set these marks may stand before it.
+    #[inline(always)]
     pub fn takes_marks(&self, marks: Marks) -> bool
         ensures { result ≡ takes_marks self.now marks }
     {
@@ -244,6 +245,7 @@ impl Form {
     }
 
     /// Whether the prefix 65 may stand, where the operand is memory: before an operand that is accessed.
+    #[cold]
     pub fn takes_gs(&self) -> bool
         ensures { result ≡ takes_gs self.now }
     {

@@ -10,7 +10,7 @@ use Rattle.image_layout.specs.laws.Blocks.{length-run_places}
 use Rattle.image_layout.specs.laws.SiteFacts.{are_short, are_whole}
 use Rattle.image_layout.specs.laws.LayFacts.{AreLaid, has_base, ascend, count, chains_below}
 use Rattle.image_layout.specs.laws.InPlacing.{has_pieces}
-use Rattle.image_layout.proofs.Laying.{lens_below, lens_small, lens_room, made_is, table_is, code_is, has_parts, plan_is}
+use Rattle.image_layout.proofs.Laying.{lens_small, lens_room, made_is, table_is, code_is, has_parts, plan_is}
 use Rattle.image_layout.proofs.layout.lay_at.Goals as goal
 
 pub overflow_add-first : goal.overflow_add-first
