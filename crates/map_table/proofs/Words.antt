@@ -9,7 +9,7 @@ use Rattle.mv_base.specs.Table.{run_of, group_count, page_at, paged_word}
 use Rattle.mv_base.specs.declared.range.RunPlace.{RunPlace}
 use Rattle.elf32_read.specs.declared.run.Run.{Run}
 use Rattle.map_table.specs.Pairs.{second_of, or_zero, entry_in, IsPair}
-use Rattle.map_table.specs.Paged.{Made, IsMade, IsPaged, places_from, places}
+use Rattle.map_table.specs.Paged.{Made, IsPaged, places_from, places}
 use Rattle.map_table.specs.Built.{IsBuilt}
 use Rattle.map_table.specs.laws.Reading.{laws}
 

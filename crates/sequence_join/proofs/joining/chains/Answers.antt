@@ -1,4 +1,4 @@
-use Rattle.std.proofs.Common.{◌≡◌, ℕ, ◌+◌, ◌<◌, ◌++◌, [], ◌∷◌, Bool, Vec, Global, false, List, length, drop, map, refl, sym, ap, ◌∙◌, subst, arith}
+use Rattle.std.proofs.Common.{◌≡◌, ℕ, ◌+◌, ◌<◌, ◌++◌, [], Bool, Vec, Global, false, List, length, drop, map, refl, sym, ap, ◌∙◌, subst, arith}
 use Rattle.sequence_join.specs.Chains.{Chain, with_links, chains_from, order, EachOnce, IsLinked, AreGreedy}
 use Rattle.sequence_join.specs.Spans.{chain_in}
 use Rattle.sequence_join.specs.Walking.{is_taken, chain_at, IsSpanOf}

@@ -1,6 +1,6 @@
-use Rattle.std.proofs.Common.{◌≡◌, ℕ, ◌+◌, ◌<◌, ◌++◌, ◌||◌, [], ◌∷◌, List, length, drop, Some, None, append-nil, append_assoc, sym, ap, ◌∙◌, arith}
+use Rattle.std.proofs.Common.{ℕ, ◌<◌, ◌++◌, ◌||◌, [], ◌∷◌, List, length, drop, Some, None, append-nil, append_assoc, sym, ap, ◌∙◌, arith}
 use Rattle.std.proofs.lemmas.List.{length-append}
-use Rattle.sequence_join.specs.Chains.{Chain, no_links, is_among, with_links}
+use Rattle.sequence_join.specs.Chains.{Chain, is_among}
 use Rattle.sequence_join.specs.Walking.{is_taken, chain_at}
 use Rattle.sequence_join.proofs.Marks.{behind, behind_first, still_first, marked_more, not_among, next_link, next_chain}
 use Rattle.sequence_join.proofs.joining.put_chain.Goals as goal
