@@ -4,3 +4,4 @@ pub mod Fetched
 pub mod Applied
 pub mod Coming
 pub mod Answering
+pub mod Describing

@@ -1,4 +1,5 @@
 pub mod Calls
+pub mod Descriptors
 pub mod Inside
 pub mod TurnResults
 pub mod Machines

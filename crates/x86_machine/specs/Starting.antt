@@ -1,6 +1,7 @@
 -- The first state of a machine. This project's own.
-use Rattle.std.specs.Prelude.{◌≡◌, ℕ, ◌≤◌, false, true, List, [], ◌∷◌, length, Result, Ok, Err}
+use Rattle.std.specs.Prelude.{◌≡◌, ℕ, ◌≤◌, false, true, List, [], ◌∷◌, length, None, Result, Ok, Err}
 use Rattle.mv_base.specs.Memory.{joined}
+use Rattle.mv_base.specs.Effects.{descriptors_in}
 use Rattle.x86_insn.specs.declared.flags.Flags.{Flags}
 use Rattle.x86_insn.specs.State.{State}
 use Rattle.elf32_read.specs.Fields.{entry_at}
@@ -17,23 +18,25 @@ use Rattle.x86_machine.specs.declared.starting.StartFault.TheVariants.{TooLarge,
 abbrev pub no_flags : Flags
 no_flags = record { cf = false; pf = false; af = false; zf = false; sf = false; df = false; of = false; id = false }
 
--- the state at a file's entry, with the arguments and the answers of a log: ESP is the stack pointer, and all other
--- registers and all flags are 0
+-- the state at a file's entry, with the arguments and the answers of a log: ESP is the stack pointer, all other registers,
+-- all flags and GS's selector are 0, GS has no base, and there is no descriptor
 abbrev pub first_state : List ℕ → Log → State
 first_state b log = record {
-  core = record { regs = 0 ∷ 0 ∷ 0 ∷ 0 ∷ stack_pointer log.args ∷ 0 ∷ 0 ∷ 0 ∷ []; flags = no_flags };
+  core = record { regs = 0 ∷ 0 ∷ 0 ∷ 0 ∷ stack_pointer log.args ∷ 0 ∷ 0 ∷ 0 ∷ []; flags = no_flags; gs = 0; gs_base = None };
+  descs = [];
   eip = entry_at b;
   memory = joined (load b) (stack_cells log.args);
   answers = answers_of log.answers;
   calls = [];
 }
 
--- a machine in that state, with room for the calls
+-- a machine in that state, with room for the calls and the descriptors
 pub record IsFirst (b : List ℕ) (log : Log) (m : Machine) : Type 0 where
   pub limit : loaded_size b ≤ 67108864
   pub free : stack_taken (load b) ≡ false
   pub state : state_of m (answers_of log.answers) ≡ first_state b log
   pub room : length log.answers ≤ m.calls.spare
+  pub descs : descriptors_in (answers_of log.answers) ≤ m.descs.spare
 
 -- an address of the stack is the file's
 pub record IsTaken (b : List ℕ) : Type 0 where

@@ -1,12 +1,13 @@
 //! The commonest instructions whose operands are registers and immediates: registers and flags are changed in place. Each
 //! equals its line of the table, which has them too; here they take a third of the time.
 
-ghost use Rattle.std.specs.Prelude.{◌≡◌, ◌<◌, [], true, IfSome, Ok};
+ghost use Rattle.std.specs.Prelude.{◌≡◌, ◌<◌, ◌||◌, [], true, false, IfSome, Ok};
+ghost use Rattle.mv_base.specs.Effects.{Descs};
 ghost use Rattle.x86_insn.specs.Arithmetic.{alu_round, test_round, bump_round, shift_round};
 ghost use Rattle.x86_insn.specs.Ask.{got_src};
 ghost use Rattle.x86_insn.specs.Moves.{mov_round, movx_round, lea_round};
 ghost use Rattle.x86_insn.specs.Operands.{set_reg as reg_set};
-ghost use Rattle.x86_insn.specs.Round.{round, limit, hop};
+ghost use Rattle.x86_insn.specs.Round.{rm_beyond, src_beyond, unless_beyond, round, limit, hop};
 ghost use Rattle.x86_insn.specs.declared.registers.Core.{Core};
 ghost use Rattle.x86_insn.specs.Values.{modulus};
 ghost use Rattle.x86_machine.specs.Inside.{IsInside, GoesTo};
@@ -21,7 +22,8 @@ use x86_insn::{AluOp, Core, Count, Flags, Insn, Mem, Reg, Rm, ShiftOp, Src, Widt
 /// A round that needs no memory; `false` where this isn't one of those told here, and then nothing has changed.
 #[tactic(auto, unfolding(x86_insn::specs::Round::round, x86_insn::specs::Round::limit))]
 pub fn done_inside(insn: &Insn, core: &mut Core) -> bool
-    ensures done { IsInside (round insn.now core.old []) core.old core.new result }
+    ensures done { (descs : Descs) → IsInside (round insn.now descs core.old []) core.old core.new
+        result }
     ensures once { result ≡ true → limit insn.now core.old ≡ 1 }
 {
     match insn {
@@ -82,6 +84,7 @@ pub fn goes_to(next: u32, insn: &Insn, flags: Flags) -> Option<u32>
 #[tactic(auto, unfolding(x86_insn::specs::Ask::got_src))]
 fn value_inside(width: Width, core: &Core, src: &Src) -> Option<u32>
     ensures is { IfSome result (λ value. got_src width core.now src.now [] ≡ Ok (value, [])) }
+    ensures near { IfSome result (λ value. src_beyond core.now src.now ≡ false) }
     ensures fits { IfSome result (λ value. value < modulus width) }
 {
     match src {
@@ -106,7 +109,8 @@ fn put_reg(width: Width, reg: Reg, value: u32, core: &mut Core)
 #[inline]
 #[tactic(auto, unfolding(x86_insn::specs::Ask::got_rm))]
 fn alu_inside(op: AluOp, width: Width, dst: &Rm, src: &Src, core: &mut Core) -> bool
-    ensures { IsInside (alu_round op width dst.now src.now core.old []) core.old core.new result }
+    ensures { IsInside (unless_beyond (rm_beyond core.old dst.now || src_beyond core.old src.now)
+        (alu_round op width dst.now src.now core.old [])) core.old core.new result }
 {
     let Rm::R(reg) = dst else {
         return false;
@@ -127,7 +131,8 @@ fn alu_inside(op: AluOp, width: Width, dst: &Rm, src: &Src, core: &mut Core) -> 
 #[inline]
 #[tactic(auto, unfolding(x86_insn::specs::Ask::got_rm))]
 fn test_inside(width: Width, dst: &Rm, src: &Src, core: &mut Core) -> bool
-    ensures { IsInside (test_round width dst.now src.now core.old []) core.old core.new result }
+    ensures { IsInside (unless_beyond (rm_beyond core.old dst.now || src_beyond core.old src.now)
+        (test_round width dst.now src.now core.old [])) core.old core.new result }
 {
     let Rm::R(reg) = dst else {
         return false;
@@ -142,7 +147,8 @@ fn test_inside(width: Width, dst: &Rm, src: &Src, core: &mut Core) -> bool
 
 #[inline]
 fn mov_inside(width: Width, dst: &Rm, src: &Src, core: &mut Core) -> bool
-    ensures { IsInside (mov_round width dst.now src.now core.old []) core.old core.new result }
+    ensures { IsInside (unless_beyond (rm_beyond core.old dst.now || src_beyond core.old src.now)
+        (mov_round width dst.now src.now core.old [])) core.old core.new result }
 {
     let Rm::R(reg) = dst else {
         return false;
@@ -166,7 +172,8 @@ fn lea_inside(width: Width, dst: Reg, mem: &Mem, core: &mut Core) -> bool
 #[inline]
 #[tactic(auto, unfolding(x86_insn::specs::Ask::got_rm))]
 fn bump_inside(up: bool, width: Width, dst: &Rm, core: &mut Core) -> bool
-    ensures { IsInside (bump_round up width dst.now core.old []) core.old core.new result }
+    ensures { IsInside (unless_beyond (rm_beyond core.old dst.now)
+        (bump_round up width dst.now core.old [])) core.old core.new result }
 {
     let Rm::R(reg) = dst else {
         return false;
@@ -181,7 +188,8 @@ fn bump_inside(up: bool, width: Width, dst: &Rm, core: &mut Core) -> bool
 #[inline]
 #[tactic(auto, unfolding(x86_insn::specs::Ask::got_rm))]
 fn shift_inside(op: ShiftOp, width: Width, dst: &Rm, count: Count, core: &mut Core) -> bool
-    ensures { IsInside (shift_round op width dst.now count core.old []) core.old core.new result }
+    ensures { IsInside (unless_beyond (rm_beyond core.old dst.now)
+        (shift_round op width dst.now count core.old [])) core.old core.new result }
 {
     let Rm::R(reg) = dst else {
         return false;
@@ -200,8 +208,8 @@ fn shift_inside(op: ShiftOp, width: Width, dst: &Rm, count: Count, core: &mut Co
 #[inline]
 #[tactic(auto, unfolding(x86_insn::specs::Ask::got_rm))]
 fn movx_inside(signed: bool, from: Width, to: Width, dst: Reg, src: &Rm, core: &mut Core) -> bool
-    ensures { IsInside (movx_round signed from to dst src.now core.old []) core.old core.new
-        result }
+    ensures { IsInside (unless_beyond (rm_beyond core.old src.now)
+        (movx_round signed from to dst src.now core.old [])) core.old core.new result }
 {
     let Rm::R(reg) = src else {
         return false;

@@ -1,15 +1,17 @@
-//! The user machine: a memory, eight registers, flags, and the calls made.
+//! The user machine: a memory, eight registers, flags, GS, descriptors, and the calls made.
 
-ghost use Rattle.std.specs.Prelude.{◌≡◌, ◌+◌, ◌-◌, ◌≤◌, [], ℕ, List, length};
+ghost use Rattle.std.specs.Prelude.{◌≡◌, ◌+◌, ◌-◌, ◌≤◌, [], ℕ, List, length, slice_set};
 ghost use Rattle.mv_base.specs.Effects.{Answer as AnswerOf};
 ghost use Rattle.x86_insn.specs.Round.{limit, hop};
-ghost use Rattle.x86_insn.specs.Step.{Found, fetch as fetch_of, call_of, rounds, turn, after_rounds, after_hop, system};
+ghost use Rattle.x86_insn.specs.Step.{Found, fetch as fetch_of, call_of, rounds, turn, after_rounds, after_hop, system, identified, is_cpuid, plainly};
 ghost use Rattle.x86_insn.specs.TakenUp.{first_effects};
 ghost use Rattle.proc_image.specs.Paged.{cells};
-ghost use Rattle.x86_machine.specs.Stepping.{answers_from, core_of, state_of, outcome_of, refused_as, ComesTo, IsStep, KeepsRoom};
+ghost use Rattle.x86_machine.specs.Stepping.{answers_from, core_of, state_of, outcome_of, refused_as, ComesTo, IsStep, KeepsRoom, HasRoom};
+ghost use Rattle.x86_machine.specs.declared.machine.Outcome.TheVariants.{Next};
 
 use crate::cache::InsnCache;
 use crate::call::{Call, CallList};
+use crate::descs::Descs;
 use crate::fetching::{Fetched, fetch};
 use crate::inside::{done_inside, goes_to};
 use crate::running::run_rounds;
@@ -41,13 +43,17 @@ pub struct Answers<'a> {
     pub next: usize,
 }
 
-/// A user machine with one thread.
+/// A user machine with one thread. `gs` is GS's selector, `gs_base` its base, where it has one, and `descs` the descriptors
+/// that it may be loaded from.
 #[derive(Drop)]
 pub struct Machine {
     pub regs: [u32; 8],
     pub eip: u32,
     pub flags: Flags,
+    pub gs: u16,
+    pub gs_base: Option<u32>,
     pub memory: Memory,
+    pub descs: Descs,
     pub calls: CallList,
     pub(crate) cache: InsnCache,
 }
@@ -58,10 +64,13 @@ impl Machine {
     ///
     /// It takes memory only where an effect maps. `TooLarge` comes where a map would leave more than 16,384 pages with a
     /// mapped byte, with their bytes.
+    ///
+    /// There has to be room for a call of each answer that is left and for their descriptors, and after `Next` there is.
     pub fn step(&mut self, answers: &mut Answers) -> Outcome
         requires next { answers.old.next ≤ length answers.old.log.now.answers }
         requires room { length answers.old.log.now.answers ≤ self.old.calls.spare +
             answers.old.next }
+        requires descs { HasRoom self.old answers.old.log.now answers.old.next }
         ensures is { IsStep (state_of self.old (answers_from answers.old.log.now
             answers.old.next)) result (state_of self.new (answers_from answers.new.log.now
             answers.new.next)) }
@@ -69,6 +78,7 @@ impl Machine {
         ensures next { answers.new.next ≤ length answers.new.log.now.answers }
         ensures room { length answers.new.log.now.answers ≤ self.new.calls.spare +
             answers.new.next }
+        ensures descs { result ≡ Next → HasRoom self.new answers.new.log.now answers.new.next }
         ensures spare { KeepsRoom self.old self.new }
     {
         match self.cache.standing(&self.memory, self.eip) {
@@ -86,6 +96,7 @@ impl Machine {
         requires next { answers.old.next ≤ length answers.old.log.now.answers }
         requires room { length answers.old.log.now.answers ≤ self.old.calls.spare +
             answers.old.next }
+        requires descs { HasRoom self.old answers.old.log.now answers.old.next }
         ensures is { IsStep (state_of self.old (answers_from answers.old.log.now
             answers.old.next)) result (state_of self.new (answers_from answers.new.log.now
             answers.new.next)) }
@@ -93,6 +104,7 @@ impl Machine {
         ensures next { answers.new.next ≤ length answers.new.log.now.answers }
         ensures room { length answers.new.log.now.answers ≤ self.new.calls.spare +
             answers.new.next }
+        ensures descs { result ≡ Next → HasRoom self.new answers.new.log.now answers.new.next }
         ensures spare { KeepsRoom self.old self.new }
     {
         match fetch(&self.memory, self.eip, &mut self.cache) {
@@ -108,6 +120,7 @@ impl Machine {
         requires next { answers.old.next ≤ length answers.old.log.now.answers }
         requires room { length answers.old.log.now.answers ≤ self.old.calls.spare +
             answers.old.next }
+        requires descs { HasRoom self.old answers.old.log.now answers.old.next }
         ensures is { IsStep (state_of self.old (answers_from answers.old.log.now
             answers.old.next)) result (state_of self.new (answers_from answers.new.log.now
             answers.new.next)) }
@@ -115,11 +128,13 @@ impl Machine {
         ensures next { answers.new.next ≤ length answers.new.log.now.answers }
         ensures room { length answers.new.log.now.answers ≤ self.new.calls.spare +
             answers.new.next }
+        ensures descs { result ≡ Next → HasRoom self.new answers.new.log.now answers.new.next }
         ensures spare { KeepsRoom self.old self.new }
     {
         let next = self.eip.wrapping_add(u32::from(len));
         match insn.next_kind() {
-            Flow::Plain | Flow::Trap => self.run(insn, next),
+            Flow::Plain => self.run_plain(insn, next, answers),
+            Flow::Trap => self.run(insn, next),
             Flow::System => self.call_system(next, answers),
             Flow::Jump
             | Flow::Branch
@@ -131,7 +146,7 @@ impl Machine {
         }
     }
 
-    /// The registers and flags.
+    /// The registers, the flags and GS.
     fn core(&self) -> Core
         ensures { result ≡ core_of self.now }
     {
@@ -139,26 +154,60 @@ impl Machine {
         Core {
             regs,
             flags: self.flags,
+            gs: self.gs,
+            gs_base: self.gs_base,
         }
     }
 
-    /// Sets the registers and flags.
+    /// Sets the registers, the flags and GS.
     fn set_core(&mut self, core: Core)
-        ensures { self.new ≡ record self.old { regs = core.regs; flags = core.flags } }
+        ensures { self.new ≡ record self.old {
+          regs = core.regs;
+          flags = core.flags;
+          gs = core.gs;
+          gs_base = core.gs_base;
+        } }
     {
         let regs = core.regs;
         self.regs = regs;
         self.flags = core.flags;
+        self.gs = core.gs;
+        self.gs_base = core.gs_base;
     }
 
-    /// An instruction of flow Plain or Trap; `next` is the address after it.
+    /// An instruction of flow Plain; `next` is the address after it.
+    fn run_plain(&mut self, insn: &Insn, next: u32, answers: &mut Answers) -> Outcome
+        requires next { answers.old.next ≤ length answers.old.log.now.answers }
+        requires room { length answers.old.log.now.answers ≤ self.old.calls.spare +
+            answers.old.next }
+        requires descs { HasRoom self.old answers.old.log.now answers.old.next }
+        ensures is { ComesTo [] (plainly (is_cpuid insn.now)
+            (state_of self.old (answers_from answers.old.log.now answers.old.next)) insn.now next)
+            (state_of self.old (answers_from answers.old.log.now answers.old.next)) result
+            (state_of self.new (answers_from answers.new.log.now answers.new.next)) }
+        ensures log { answers.new.log.now ≡ answers.old.log.now }
+        ensures next { answers.new.next ≤ length answers.new.log.now.answers }
+        ensures room { length answers.new.log.now.answers ≤ self.new.calls.spare +
+            answers.new.next }
+        ensures descs { result ≡ Next → HasRoom self.new answers.new.log.now answers.new.next }
+        ensures spare { KeepsRoom self.old self.new }
+    {
+        if is_cpuid(insn) {
+            self.identify(next, answers)
+        } else {
+            self.run(insn, next)
+        }
+    }
+
+    /// An instruction of flow Plain but CPUID, or of flow Trap; `next` is the address after it.
     fn run(&mut self, insn: &Insn, next: u32) -> Outcome
         ensures is { (answers : List AnswerOf) → ComesTo []
             (after_rounds (state_of self.old answers) next
-            (rounds (limit insn.now (core_of self.old)) insn.now (core_of self.old)
-            (cells self.old.memory))) (state_of self.old answers) result
+            (rounds (limit insn.now (core_of self.old)) insn.now self.old.descs.made
+            (core_of self.old) (cells self.old.memory))) (state_of self.old answers) result
             (state_of self.new answers) }
         ensures calls { self.new.calls ≡ self.old.calls }
+        ensures descs { self.new.descs ≡ self.old.descs }
     {
         let mut core = self.core();
         if done_inside(insn, &mut core) {
@@ -166,7 +215,7 @@ impl Machine {
             self.eip = next;
             return Outcome::Next;
         }
-        let ran = run_rounds(insn, &mut core, &mut self.memory);
+        let ran = run_rounds(insn, &self.descs, &mut core, &mut self.memory);
         self.set_core(core);
         match ran {
             Ok(()) => {
@@ -184,6 +233,7 @@ impl Machine {
             (hop next insn.now (core_of self.old)))) (state_of self.old answers) result
             (state_of self.new answers) }
         ensures calls { self.new.calls ≡ self.old.calls }
+        ensures descs { self.new.descs ≡ self.old.descs }
     {
         match goes_to(next, insn, self.flags) {
             Some(to) => {
@@ -201,6 +251,7 @@ impl Machine {
             (hop next insn.now (core_of self.old)))) (state_of self.old answers) result
             (state_of self.new answers) }
         ensures calls { self.new.calls ≡ self.old.calls }
+        ensures descs { self.new.descs ≡ self.old.descs }
     {
         let mut core = self.core();
         match take_turn(&mut self.memory, &mut core, &Transfer { next, insn }) {
@@ -218,6 +269,7 @@ impl Machine {
         requires next { answers.old.next ≤ length answers.old.log.now.answers }
         requires room { length answers.old.log.now.answers ≤ self.old.calls.spare +
             answers.old.next }
+        requires descs { HasRoom self.old answers.old.log.now answers.old.next }
         ensures is { ComesTo (first_effects (answers_from answers.old.log.now answers.old.next))
             (system (state_of self.old (answers_from answers.old.log.now answers.old.next)) next
             (answers_from answers.old.log.now answers.old.next))
@@ -227,12 +279,13 @@ impl Machine {
         ensures next { answers.new.next ≤ length answers.new.log.now.answers }
         ensures room { length answers.new.log.now.answers ≤ self.new.calls.spare +
             answers.new.next }
+        ensures descs { result ≡ Next → HasRoom self.new answers.new.log.now answers.new.next }
         ensures spare { KeepsRoom self.old self.new }
     {
         let log = answers.log;
         match log.answers.as_slice().get(answers.next) {
             Some(Answer::Ret { eax, effects }) => {
-                match apply_all(&mut self.memory, effects.as_slice()) {
+                match apply_all(&mut self.memory, &mut self.descs, effects.as_slice()) {
                     Ok(()) => {
                         let call = self.call();
                         self.calls.push(call);
@@ -250,6 +303,39 @@ impl Machine {
                 answers.next += 1;
                 Outcome::Gone
             }
+            Some(Answer::Cpuid { .. }) => Outcome::BadAnswer,
+            None => Outcome::NoAnswer,
+        }
+    }
+
+    /// CPUID takes the next answer and makes no call; `next` is the address after the instruction.
+    fn identify(&mut self, next: u32, answers: &mut Answers) -> Outcome
+        requires next { answers.old.next ≤ length answers.old.log.now.answers }
+        requires room { length answers.old.log.now.answers ≤ self.old.calls.spare +
+            answers.old.next }
+        requires descs { HasRoom self.old answers.old.log.now answers.old.next }
+        ensures is { ComesTo []
+            (identified (state_of self.old (answers_from answers.old.log.now answers.old.next)) next
+            (answers_from answers.old.log.now answers.old.next))
+            (state_of self.old (answers_from answers.old.log.now answers.old.next)) result
+            (state_of self.new (answers_from answers.new.log.now answers.new.next)) }
+        ensures log { answers.new.log.now ≡ answers.old.log.now }
+        ensures next { answers.new.next ≤ length answers.new.log.now.answers }
+        ensures room { length answers.new.log.now.answers ≤ self.new.calls.spare +
+            answers.new.next }
+        ensures descs { HasRoom self.new answers.new.log.now answers.new.next }
+        ensures spare { KeepsRoom self.old self.new }
+    {
+        let log = answers.log;
+        match log.answers.as_slice().get(answers.next) {
+            Some(Answer::Cpuid { eax, ebx, ecx, edx }) => {
+                self.regs = with_words(self.regs, *eax, *ebx, *ecx, *edx);
+                self.eip = next;
+                answers.next += 1;
+                Outcome::Next
+            }
+            Some(Answer::Ret { .. }) => Outcome::BadAnswer,
+            Some(Answer::Gone) => Outcome::BadAnswer,
             None => Outcome::NoAnswer,
         }
     }
@@ -265,6 +351,26 @@ impl Machine {
             ],
         }
     }
+}
+
+/// The registers with EAX, EBX, ECX and EDX set.
+fn with_words(regs: [u32; 8], eax: u32, ebx: u32, ecx: u32, edx: u32) -> [u32; 8]
+    ensures { result ≡ slice_set (slice_set (slice_set (slice_set regs 0 eax) 3 ebx) 1 ecx) 2
+        edx }
+{
+    let mut regs = regs;
+    regs[0] = eax;
+    regs[3] = ebx;
+    regs[1] = ecx;
+    regs[2] = edx;
+    regs
+}
+
+/// Whether an instruction is CPUID.
+fn is_cpuid(insn: &Insn) -> bool
+    ensures { result ≡ is_cpuid insn.now }
+{
+    matches!(insn, Insn::Cpuid)
 }
 
 /// The outcome of a stop.

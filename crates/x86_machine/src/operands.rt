@@ -2,7 +2,7 @@
 
 ghost use Rattle.std.specs.Prelude.{◌≡◌, ◌<◌, ◌%◌, ◌^◌, Ok, Err, IfOk, IfErr, slice_index};
 ghost use Rattle.x86_insn.specs.Ask.{got_at, got_rm, got_src, ends, ends_in};
-ghost use Rattle.x86_insn.specs.Operands.{base_part, index_part, byte_reg, reg as reg_of, reg_value, effective_address, regs_with, set_reg, set_byte_reg, bytes_of, accumulator, set_flags, sign_extended, address_before};
+ghost use Rattle.x86_insn.specs.Operands.{base_part, index_part, segment_part, byte_reg, reg as reg_of, reg_value, effective_address, regs_with, set_reg, set_byte_reg, bytes_of, accumulator, set_flags, sign_extended, address_before};
 ghost use Rattle.mv_base.specs.Memory.{address_after};
 ghost use Rattle.x86_insn.specs.declared.insn.Width.TheVariants.{D};
 ghost use Rattle.x86_insn.specs.Values.{modulus};
@@ -48,8 +48,7 @@ pub fn reg_value(width: Width, core: &Core, reg: Reg) -> u32
 pub fn with_flags(flags: Flags, core: &Core) -> Core
     ensures { result ≡ set_flags flags core.now }
 {
-    let regs = core.regs;
-    Core { regs, flags }
+    Core { flags, ..*core }
 }
 
 /// AL, AX or EAX.
@@ -79,11 +78,25 @@ fn index_part(core: &Core, index: Option<(Reg, u8)>) -> u32
     }
 }
 
-/// Base, index times its factor, and displacement, modulo 2^32.
+/// GS's base, where the operand is relative to it; 0 where GS has none.
+fn segment_part(core: &Core, gs: bool) -> u32
+    ensures { result ≡ segment_part core.now gs }
+{
+    if !gs {
+        return 0;
+    }
+    match core.gs_base {
+        Some(base) => base,
+        None => 0,
+    }
+}
+
+/// GS's base where the operand is relative to it, base, index times its factor, and displacement, modulo 2^32.
 pub fn effective_address(core: &Core, mem: &Mem) -> u32
     ensures { result ≡ effective_address core.now mem.now }
 {
-    base_part(core, mem.base)
+    segment_part(core, mem.gs)
+        .wrapping_add(base_part(core, mem.base))
         .wrapping_add(index_part(core, mem.index))
         .wrapping_add(mem.disp)
 }
@@ -131,7 +144,7 @@ pub fn set_reg(width: Width, reg: Reg, value: u32, core: &Core) -> Core
 {
     Core {
         regs: regs_with(width, core.regs, reg, value),
-        flags: core.flags,
+        ..*core
     }
 }
 

@@ -1,18 +1,21 @@
 //! The table of instructions: what each asks of memory, and what it does to registers and flags.
 
 ghost use Rattle.std.specs.Prelude.{◌≡◌};
-ghost use Rattle.x86_insn.specs.Round.{round, limit, hop};
+ghost use Rattle.x86_insn.specs.Round.{round, reached_round, limit, hop, reached_hop};
 
 use crate::arithmetic::{
     alu_round, bump_round, cmpxchg_round, div_round, imul_round, mul_round, test_round,
     unary_round, xadd_round,
 };
 use crate::bits::{bit_round, double_round, scan_round, shift_round};
+use crate::descs::Descs;
 use crate::moves::{
     bswap_round, cbw_round, cmov_round, cwd_round, lea_round, mov_round, movx_round, set_round,
     xchg_round, xlat_round,
 };
 use crate::operands::ends;
+use crate::reaching::stands_beyond;
+use crate::segments::{from_gs_round, to_gs_round};
 use crate::stack::{
     flag_round, lahf_round, leave_round, pop_round, popad_round, popfd_round, push_round,
     pushad_round, pushfd_round, sahf_round,
@@ -23,10 +26,21 @@ use crate::transfers::{
 };
 use x86_insn::{AccessBytes, Ask, Core, Insn, Kind, Stop};
 
-/// A round of an instruction of flow Plain or Trap, by what it has read so far; no other has a round.
+/// A round of an instruction of flow Plain or Trap but CPUID, by the descriptors and what it has read so far; no other has
+/// a round.
 #[tactic(auto, unfolding(x86_insn::specs::Round::round))]
-pub fn round(insn: &Insn, core: &Core, got: &[AccessBytes]) -> Ask<bool>
-    ensures { result ≡ round insn.now core.now got.now }
+pub fn round(insn: &Insn, descs: &Descs, core: &Core, got: &[AccessBytes]) -> Ask<bool>
+    ensures { result ≡ round insn.now descs.now.made core.now got.now }
+{
+    if stands_beyond(insn, core, got) {
+        return Ask::Halts(Stop::Trap(Kind::Protection, 0));
+    }
+    reached_round(insn, descs, core, got)
+}
+
+/// The same where what it accesses can be reached.
+fn reached_round(insn: &Insn, descs: &Descs, core: &Core, got: &[AccessBytes]) -> Ask<bool>
+    ensures { result ≡ reached_round insn.now descs.now.made core.now got.now }
 {
     match insn {
         Insn::Alu {
@@ -132,6 +146,8 @@ pub fn round(insn: &Insn, core: &Core, got: &[AccessBytes]) -> Ask<bool>
         Insn::Sahf => sahf_round(core),
         Insn::Flag { op } => flag_round(*op, core),
         Insn::Nop | Insn::Pause | Insn::Endbr => ends(false, *core),
+        Insn::ToGs { src } => to_gs_round(descs, src, core, got),
+        Insn::FromGs { width, dst } => from_gs_round(*width, dst, core),
         Insn::Int3 => Ask::Halts(Stop::Trap(Kind::Breakpoint, 0)),
         Insn::Hlt => Ask::Halts(Stop::Trap(Kind::Protection, 0)),
         Insn::Ud2 => Ask::Halts(Stop::Trap(Kind::Invalid, 0)),
@@ -142,6 +158,7 @@ pub fn round(insn: &Insn, core: &Core, got: &[AccessBytes]) -> Ask<bool>
         | Insn::JumpVia { .. }
         | Insn::CallVia { .. }
         | Insn::Ret { .. }
+        | Insn::Cpuid
         | Insn::Int80 => Ask::Halts(Stop::Outside),
     }
 }
@@ -165,6 +182,16 @@ pub fn limit(insn: &Insn, core: &Core) -> u32
 #[tactic(auto, unfolding(x86_insn::specs::Round::hop))]
 pub fn hop(next: u32, insn: &Insn, core: &Core, got: &[AccessBytes]) -> Ask<u32>
     ensures { result ≡ hop next insn.now core.now got.now }
+{
+    if stands_beyond(insn, core, got) {
+        return Ask::Halts(Stop::Trap(Kind::Protection, 0));
+    }
+    reached_hop(next, insn, core, got)
+}
+
+/// The same where what it accesses can be reached.
+fn reached_hop(next: u32, insn: &Insn, core: &Core, got: &[AccessBytes]) -> Ask<u32>
+    ensures { result ≡ reached_hop next insn.now core.now got.now }
 {
     match insn {
         Insn::Jump { rel } => jump_hop(next, *rel, core),

@@ -6,6 +6,7 @@ ghost use Rattle.x86_insn.specs.Step.{rounds};
 ghost use Rattle.proc_image.specs.Paged.{cells};
 ghost use Rattle.x86_machine.specs.TurnResults.{ran};
 
+use crate::descs::Descs;
 use crate::round::limit;
 use crate::turns::{Rounds, take_turn};
 use proc_image::Memory;
@@ -16,13 +17,18 @@ use x86_insn::{Core, Insn, Stop};
 /// # Errors
 ///
 /// The stop, with core and memory as the rounds before it left them.
-pub fn run_rounds(insn: &Insn, core: &mut Core, memory: &mut Memory) -> Result<(), Stop>
-    ensures { rounds (limit_of insn.now core.old) insn.now core.old (cells memory.old) ≡ ran
-        result core.new (cells memory.new) }
+pub fn run_rounds(
+    insn: &Insn,
+    descs: &Descs,
+    core: &mut Core,
+    memory: &mut Memory,
+) -> Result<(), Stop>
+    ensures { rounds (limit_of insn.now core.old) insn.now descs.now.made core.old
+        (cells memory.old) ≡ ran result core.new (cells memory.new) }
 {
     let mut left = limit(insn, core);
     while left > 0 {
-        match take_turn(memory, core, &Rounds { insn }) {
+        match take_turn(memory, core, &Rounds { insn, descs }) {
             Ok(again) => {
                 if !again {
                     return Ok(());

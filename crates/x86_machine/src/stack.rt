@@ -113,7 +113,7 @@ pub fn popad_round(core: &Core, got: &[AccessBytes]) -> Ask<bool>
             false,
             Core {
                 regs: popped_regs(esp, bytes),
-                flags: core.flags,
+                ..*core
             },
         ),
         None => Ask::Reads {
@@ -189,9 +189,7 @@ fn popfd_end(image: u32, core: &Core) -> Ask<bool>
     if sets_other_flags(image) {
         return Ask::Halts(Stop::Outside);
     }
-    let regs = risen(4, core).regs;
-    let flags = flags_of_image(image);
-    ends(false, Core { regs, flags })
+    ends(false, with_flags(flags_of_image(image), &risen(4, core)))
 }
 
 /// AH gets the image's low byte.

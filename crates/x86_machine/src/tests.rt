@@ -1,6 +1,7 @@
 //! Small programs, each run until it stops or for a hundred steps, with ample memory.
 
 ghost use Rattle.std.specs.Prelude.{◌≡◌, ◌≤◌, length};
+ghost use Rattle.x86_machine.specs.Stepping.{HasRoom};
 
 use crate::machine::{Answers, Machine, Outcome};
 use elf32_read::read_image;
@@ -78,7 +79,8 @@ fn log_of_three(alloc: Global) -> Result<Log, Fail> {
 
 /// The steps that a machine completes, at most a hundred, and what the next one gives.
 fn run(machine: &mut Machine, log: &Log) -> (u32, Outcome)
-    requires { length log.now.answers ≤ machine.old.calls.spare }
+    requires room { length log.now.answers ≤ machine.old.calls.spare }
+    requires descs { HasRoom machine.old log.now 0 }
 {
     let mut answers = Answers { log, next: 0 };
     for done in 0..100 {
@@ -104,7 +106,7 @@ fn steps_and_stops(rt: HostRuntime) -> Result<(), Fail> {
     let log = log_of(rt.alloc(), Vec::new(rt.alloc()))?;
     let protection = Outcome::Trap(Kind::Protection, 0);
     // the code, the steps, the outcome, EAX, EBX, ECX, ESP and the flags as PUSHFD stores them
-    let rows: [(&[u8], u32, Outcome, [u32; 4], u32); 14] = [
+    let rows: [(&[u8], u32, Outcome, [u32; 4], u32); 16] = [
         // mov al,0x7f; add al,1: signed overflow
         (
             b"\xB0\x7F\x04\x01\xF4",
@@ -215,6 +217,21 @@ fn steps_and_stops(rt: HostRuntime) -> Result<(), Fail> {
             [0, 0, 0, 0xBFFF_EFE0],
             0x202,
         ),
+        // gs gets the selector 0x34, whose low bits are no user's; a read through gs without a base
+        (
+            b"\xB8\x34\x00\x00\x00\x8E\xE8",
+            1,
+            protection,
+            [0x34, 0, 0, 0xBFFF_EFE0],
+            0x202,
+        ),
+        (
+            b"\x65\xA1\x00\x00\x00\x00",
+            0,
+            protection,
+            [0, 0, 0, 0xBFFF_EFE0],
+            0x202,
+        ),
     ];
     for (code, steps, outcome, regs, flags) in rows {
         let (machine, done, ended) = ran(rt.alloc(), code, &log)?;
@@ -286,6 +303,59 @@ fn takes_answers(rt: HostRuntime) -> Result<(), Fail> {
     Ok(())
 }
 
+/// An answer of 0 for EAX that gives the descriptor of index 6 a base.
+fn described(alloc: Global, base: u32) -> Result<Answer, Fail> {
+    let mut effects = Vec::new(alloc);
+    effects.push(Effect::Desc { index: 6, base })?;
+    Ok(Answer::Ret {
+        eax: 0,
+        effects: Effects::new(effects),
+    })
+}
+
+#[test]
+fn reads_through_gs(rt: HostRuntime) -> Result<(), Fail> {
+    let alloc = rt.alloc();
+    let mut answers = Vec::new(alloc);
+    answers.push(described(alloc, 0x0804_8040)?)?;
+    answers.push(described(alloc, 0)?)?;
+    // int 0x80; mov eax,0x33; mov gs,ax; int 0x80, which gives the descriptor another base; mov eax,gs:[0x14]; hlt
+    let code = b"\xCD\x80\xB8\x33\x00\x00\x00\x8E\xE8\xCD\x80\x65\xA1\x14\x00\x00\x00\xF4";
+    let (machine, steps, outcome) = ran(alloc, code, &log_of(alloc, answers)?)?;
+    assert_eq!(rt; (steps, outcome), (5, Outcome::Trap(Kind::Protection, 0)));
+    assert_eq!(rt; machine.regs[0], 0x33B8_80CD);
+    assert_eq!(rt; (machine.gs, machine.gs_base), (0x33, Some(0x0804_8040)));
+    assert_eq!(rt; machine.descs.as_slice().first().copied(), Some((6, 0)));
+    Ok(())
+}
+
+#[test]
+fn identifies(rt: HostRuntime) -> Result<(), Fail> {
+    let alloc = rt.alloc();
+    let mut answers = Vec::new(alloc);
+    answers.push(Answer::Cpuid {
+        eax: 1,
+        ebx: 2,
+        ecx: 3,
+        edx: 4,
+    })?;
+    let log = log_of(alloc, answers)?;
+    // cpuid; hlt
+    let code = b"\x0F\xA2\xF4";
+    let (machine, steps, outcome) = ran(alloc, code, &log)?;
+    assert_eq!(rt; (steps, outcome), (1, Outcome::Trap(Kind::Protection, 0)));
+    let [eax, ecx, edx, ebx, _, _, _, _] = machine.regs;
+    assert_eq!(rt; [eax, ebx, ecx, edx], [1, 2, 3, 4]);
+    assert_eq!(rt; machine.calls.as_slice().len(), 0);
+
+    let (_, steps, outcome) = ran(alloc, code, &log_of_one(alloc, 0, None)?)?;
+    assert_eq!(rt; (steps, outcome), (0, Outcome::BadAnswer));
+    // int 0x80
+    let (_, steps, outcome) = ran(alloc, b"\xCD\x80", &log)?;
+    assert_eq!(rt; (steps, outcome), (0, Outcome::BadAnswer));
+    Ok(())
+}
+
 #[test]
 fn bounds_mapped_pages(rt: HostRuntime) -> Result<(), Fail> {
     let alloc = rt.alloc();
@@ -309,9 +379,15 @@ fn runs_the_bytes_that_stand_there_now(rt: HostRuntime) -> Result<(), Fail> {
     let (mut machine, _, _) = ran(alloc, b"\xB0\x01\xF4", &log)?;
     let bytes = file(alloc, b"\xB0\x02\x90\xF4")?;
     let image = read_image(alloc, &bytes).ok().ok_or("an image")?;
-    let Machine { memory, calls, .. } = Machine::start(alloc, &image, &bytes, &log)?;
+    let Machine {
+        memory,
+        calls,
+        descs,
+        ..
+    } = Machine::start(alloc, &image, &bytes, &log)?;
     machine.memory = memory;
     machine.calls = calls;
+    machine.descs = descs;
     machine.eip = 0x0804_8054;
     let (steps, outcome) = run(&mut machine, &log);
     assert_eq!(rt; (steps, outcome), (2, Outcome::Trap(Kind::Protection, 0)));

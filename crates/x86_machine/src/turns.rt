@@ -7,6 +7,7 @@ ghost use Rattle.proc_image.specs.Access.{IsWritten};
 ghost use Rattle.proc_image.specs.Paged.{cells};
 ghost use Rattle.x86_machine.specs.TurnResults.{IsRead, turned, KeptWhereHalted};
 
+use crate::descs::Descs;
 use crate::round::{hop, round};
 use proc_image::Memory;
 use x86_insn::{AccessBytes, AccessLen, Ask, Core, Insn, Kind, Stop};
@@ -23,19 +24,20 @@ pub trait Asks<E: Drop> {
         ensures { result ≡ asked self.now core.now got.now };
 }
 
-/// An instruction of flow Plain or Trap asks for its next round.
+/// An instruction of flow Plain or Trap asks for its next round, by the descriptors.
 #[derive(Clone, Copy)]
 pub struct Rounds<'a> {
     pub insn: &'a Insn,
+    pub descs: &'a Descs,
 }
 
 impl<'a> Asks<bool> for Rounds<'a> {
     ghost use Rattle.x86_insn.specs.Round.{round};
 
-    ghost asked = { λ a. round a.insn.now };
+    ghost asked = { λ a. round a.insn.now a.descs.now.made };
 
     fn ask(&self, core: &Core, got: &[AccessBytes]) -> Ask<bool> {
-        round(self.insn, core, got)
+        round(self.insn, self.descs, core, got)
     }
 }
 

@@ -1,14 +1,15 @@
-use Rattle.std.proofs.Common.{◌≡◌, ℕ, suc, ◌+◌, ◌<◌, List, [], ◌∷◌, ◌++◌, length, map, take, drop, get_or, refl, sym, ap, ◌∙◌, subst, arith, add-one}
+use Rattle.std.proofs.Common.{◌≡◌, ℕ, suc, ◌+◌, ◌<◌, ◌≤◌, cond, List, [], ◌∷◌, ◌++◌, length, map, take, drop, get_or, count_by, refl, sym, ap, ◌∙◌, subst, arith, add-one}
 use Rattle.std.specs.List.{AllByRecursion}
 use Rattle.std.proofs.Math.Seq.{drop-cons, take-suc}
-use Rattle.std.proofs.Math.ListN.{drop_of_length-le}
-use Rattle.std.proofs.lemmas.List.{take-append-drop, map-append}
-use Rattle.mv_base.specs.Effects.{IsEffect, AllApplied, apply_all}
+use Rattle.std.proofs.lemmas.List.{take_all, take-append-drop, map-append}
+use Rattle.std.proofs.lemmas.List.Sums.{sum_by-cons}
+use Rattle.mv_base.specs.Memory.{Memory}
+use Rattle.mv_base.specs.Effects.{IsEffect, AllApplied, Descs, describe_all, is_descriptor}
 use Rattle.syscall_log.specs.declared.effect.Effect.{Effect as Change}
 use Rattle.syscall_log.specs.Meaning.{effect_of}
 use Rattle.proc_image.specs.Paged.{cells}
-use Rattle.x86_machine.specs.Bounded.{apply_bounded}
-use Rattle.x86_machine.proofs.Applied.{done-next, applied-more, fault-there}
+use Rattle.x86_machine.specs.Bounded.{Within, apply_bounded, ComeTo}
+use Rattle.x86_machine.proofs.Applied.{applied-more, described-more, fault-there}
 use Rattle.x86_machine.proofs.system.apply_all.Goals as goal
 
 -- the effects from a number on, and those up to it
@@ -24,16 +25,42 @@ front_of es i e below is =
 whole_of : (es : List Change) (i : ℕ) → map effect_of es ≡ map effect_of (take i es) ++ map effect_of (drop i es)
 whole_of es i = ap (map effect_of) (sym (take-append-drop i es)) ∙ map-append effect_of (take i es) (drop i es)
 
+-- how many of the effects from a number on are descriptors
+count_of : (es : List Change) (i : ℕ) (e : Change) → i < length es → e ≡ get_or es i e
+    → count_by is_descriptor (map effect_of (drop i es)) ≡ cond (is_descriptor (effect_of e)) 1 0 + count_by is_descriptor (map effect_of (drop (i + 1) es))
+count_of es i e below is = ap (count_by is_descriptor) (rest_of es i e below is) ∙ sum_by-cons (λ x. cond (is_descriptor x) 1 0) (effect_of e) (map effect_of (drop (i + 1) es))
+
+-- all of them
+all_of : (m now : Memory) (es : List Change) (i : ℕ) (was ds : Descs) → length es ≤ i → apply_bounded m (map effect_of (take i es)) ≡ Within (AllApplied now) → ds ≡ describe_all m (map effect_of (take i es)) was
+    → ComeTo m (map effect_of es) was (AllApplied now) ds
+all_of m now es i was ds past stand kept =
+    let all : take i es ≡ es = take_all i es past in
+    record {
+      within = ap (λ xs. apply_bounded m (map effect_of xs)) (sym all) ∙ stand;
+      described = kept ∙ ap (λ xs. describe_all m (map effect_of xs) was) all;
+    }
+
 pub returns-in-Err : goal.returns-in-Err
 returns-in-Err c =
     let es = c.args.effects.now in
     let i = c.loop-effect.effect-index in
     let e = c.effect-item.result in
     let rest = rest_of es i e c.loop-effect-test.true c.effect-item.is in
-    fault-there c.in-Err.fault _ (cells c.loop-effect.memory) (cells c.apply.new.self) (map effect_of (take i es)) (effect_of e) (map effect_of (drop (i + 1) es)) (map effect_of es)
-    (c.loop-effect.invariant.left ∙ ap (apply_bounded (cells c.loop-effect.memory)) rest)
-    (whole_of es i ∙ ap (λ xs. map effect_of (take i es) ++ xs) rest)
-    c.loop-effect.invariant.stand c.in-Err.ensures
+    record {
+      is =
+          fault-there (cells c.args.memory.now) (cells c.loop-effect.memory) (cells c.apply.new.self) (map effect_of (take i es)) (effect_of e)
+          c.args.descs.now.made c.loop-effect.descs.made c.loop-effect.invariant.stand c.loop-effect.invariant.described
+          (map effect_of (drop (i + 1) es)) (map effect_of es) (whole_of es i ∙ ap (λ xs. map effect_of (take i es) ++ xs) rest)
+          c.in-Err.fault c.in-Err.ensures;
+      spare = c.loop-effect.invariant.spare;
+      left = omega (arith, c.loop-effect.invariant.left);
+    }
+
+pub describe-requires : goal.describe-requires
+describe-requires c = λ is.
+    let head = count_of c.args.effects.now c.loop-effect.effect-index c.effect-item.result c.loop-effect-test.true c.effect-item.is in
+    let one = ap {B = ℕ} (λ b. cond b 1 0) is in
+    omega (arith, head, one, c.loop-effect.invariant.left, c.requires.room)
 
 pub loop-effect-preserved : goal.loop-effect-preserved
 loop-effect-preserved c =
@@ -41,15 +68,35 @@ loop-effect-preserved c =
     let i = c.loop-effect.effect-index in
     let e = c.effect-item.result in
     let rest = rest_of es i e c.loop-effect-test.true c.effect-item.is in
+    let front = front_of es i e c.loop-effect-test.true c.effect-item.is in
+    let head = count_of es i e c.loop-effect-test.true c.effect-item.is in
+    let m = cells c.args.memory.now in
     record {
-      left = done-next _ (cells c.loop-effect.memory) (cells c.apply.new.self) (effect_of e) (map effect_of (drop (i + 1) es)) (c.loop-effect.invariant.left ∙ ap (apply_bounded (cells c.loop-effect.memory)) rest) c.in-Ok.ensures;
       bounds = (subst (AllByRecursion IsEffect) rest c.loop-effect.invariant.bounds).1;
       stand =
-          ap (apply_all (cells c.args.memory.now)) (front_of es i e c.loop-effect-test.true c.effect-item.is)
-          ∙ applied-more (cells c.args.memory.now) (cells c.loop-effect.memory) (map effect_of (take i es)) (effect_of e) c.loop-effect.invariant.stand c.in-Ok.ensures.allowed
-          ∙ ap AllApplied (sym c.in-Ok.ensures.done);
+          ap (apply_bounded m) front
+          ∙ applied-more m (cells c.loop-effect.memory) (cells c.apply.new.self) (map effect_of (take i es)) (effect_of e) c.args.descs.now.made c.loop-effect.descs.made c.loop-effect.invariant.stand c.loop-effect.invariant.described c.in-Ok.ensures;
+      described =
+          c.describe.ensures.made
+          ∙ described-more m (cells c.loop-effect.memory) (cells c.apply.new.self) (map effect_of (take i es)) (effect_of e) c.args.descs.now.made c.loop-effect.descs.made c.loop-effect.invariant.stand c.loop-effect.invariant.described c.in-Ok.ensures
+          ∙ ap (λ xs. describe_all m xs c.args.descs.now.made) (sym front);
+      spare = c.describe.ensures.spare ∙ c.loop-effect.invariant.spare;
+      left = omega (arith, head, c.loop-effect.invariant.left, c.describe.ensures.left);
     }
 
-pub returns : goal.returns
+pub loop-effect-init : goal.loop-effect-init
 unfolding apply_bounded
-returns c = c.loop-effect.invariant.left ∙ ap (λ xs. apply_bounded (cells c.loop-effect.memory) (map effect_of xs)) (drop_of_length-le c.args.effects.now (omega (arith, c.loop-effect-test.false)))
+loop-effect-init c = record {
+  bounds = c.requires.bounds;
+  stand = refl;
+  described = refl;
+  spare = refl;
+  left = omega (arith);
+}
+
+pub returns : goal.returns
+returns c = record {
+  is = all_of (cells c.args.memory.now) (cells c.loop-effect.memory) c.args.effects.now c.loop-effect.effect-index c.args.descs.now.made c.loop-effect.descs.made (omega (arith, c.loop-effect-test.false)) c.loop-effect.invariant.stand c.loop-effect.invariant.described;
+  spare = c.loop-effect.invariant.spare;
+  left = omega (arith, c.loop-effect.invariant.left);
+}

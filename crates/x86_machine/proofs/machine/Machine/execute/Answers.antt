@@ -6,15 +6,18 @@ use Rattle.x86_machine.proofs.machine.Machine.execute.Goals as goal
 
 pub returns-in-Plain-clause-is : goal.returns-in-Plain-clause-is
 returns-in-Plain-clause-is c =
+    let s = state_of c.args.self.now (answers_from c.args.answers.now.log.now c.args.answers.now.next) in
+    let next : ℕ = (c.args.self.now.eip + c.from.result) % 2 ^ 32 in
+    let here = ap (λ n. (c.args.self.now.eip + n) % 2 ^ 32) c.from.ensures in
+    step-comes s next c.args.len c.args.insn.now here c.requires.found flow.Plain c.run_plain.result _ (sym c.next_kind.ensures ∙ c.in-Plain.is) c.run_plain.ensures.is
+
+pub returns-in-Trap-clause-is : goal.returns-in-Trap-clause-is
+returns-in-Trap-clause-is c =
     let answers = answers_from c.args.answers.now.log.now c.args.answers.now.next in
     let s = state_of c.args.self.now answers in
     let next : ℕ = (c.args.self.now.eip + c.from.result) % 2 ^ 32 in
     let here = ap (λ n. (c.args.self.now.eip + n) % 2 ^ 32) c.from.ensures in
-    let comes = step-comes s next c.args.len c.args.insn.now here c.requires.found in
-    elim c.in-Plain.is [
-      | inl e ↦ comes flow.Plain c.run.result (state_of c.run.new.self answers) (sym c.next_kind.ensures ∙ e) (c.run.ensures.is answers)
-      | inr e ↦ comes flow.Trap c.run.result (state_of c.run.new.self answers) (sym c.next_kind.ensures ∙ e) (c.run.ensures.is answers)
-    ]
+    step-comes s next c.args.len c.args.insn.now here c.requires.found flow.Trap c.run.result (state_of c.run.new.self answers) (sym c.next_kind.ensures ∙ c.in-Trap.is) (c.run.ensures.is answers)
 
 pub returns-in-System-clause-is : goal.returns-in-System-clause-is
 returns-in-System-clause-is c =
