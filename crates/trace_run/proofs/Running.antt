@@ -10,7 +10,7 @@ use Rattle.x86_insn.specs.State.{State, Stopped}
 use Rattle.x86_insn.specs.State as state
 use Rattle.x86_insn.specs.Step.{step}
 use Rattle.x86_insn.specs.Run.{next_of, next_state, state_after}
-use Rattle.x86_insn.specs.TakenUp.{taken_up}
+use Rattle.x86_insn.specs.TakenUp.{applied_by}
 use Rattle.x86_machine.specs.declared.machine.Outcome.{Outcome}
 use Rattle.x86_machine.specs.declared.machine.Outcome.TheVariants as outcome
 use Rattle.x86_machine.specs.Stepping.{Comes, IsStep}
@@ -27,7 +27,7 @@ unfolding state_after
 begins s = record { state = refl; within = λ k t l e. absurd (omega arith) }
 
 -- a step that completes within the bound leads on
-pub goes_on : (first : State) (n : ℕ) (s t : State) → Reaches first n s → Comes (taken_up s) (step s) s (state.Next t) → Reaches first (n + 1) t
+pub goes_on : (first : State) (n : ℕ) (s t : State) → Reaches first n s → Comes (applied_by s) (step s) s (state.Next t) → Reaches first (n + 1) t
 unfolding state_after
 goes_on first n s t h comes = record {
   state = ap (λ k. state_after k first) (add-one n) ∙ ap (option_and_then next_state) h.state ∙ ap next_of comes.is;
@@ -39,8 +39,19 @@ goes_on first n s t h comes = record {
   ];
 }
 
+-- an outcome with no end is that of a step that completes
+pub completes : (o : Outcome) → ended_by o ≡ Ok None → o ≡ outcome.Next
+completes outcome.Next e = refl
+completes (outcome.Trap kind at) e = cc
+completes outcome.Outside e = cc
+completes outcome.NoAnswer e = cc
+completes outcome.BadAnswer e = cc
+completes outcome.Gone e = cc
+completes (outcome.TooLarge n) e = cc
+completes outcome.NoMemory e = cc
+
 -- a step with no end completes
-pub goes : (s t : State) (o : Outcome) → ended_by o ≡ Ok None → IsStep s o t → Comes (taken_up s) (step s) s (state.Next t)
+pub goes : (s t : State) (o : Outcome) → ended_by o ≡ Ok None → IsStep s o t → Comes (applied_by s) (step s) s (state.Next t)
 goes s t outcome.Next e h = h
 goes s t (outcome.Trap kind at) e h = cc
 goes s t outcome.Outside e h = cc
@@ -51,7 +62,7 @@ goes s t (outcome.TooLarge n) e h = cc
 goes s t outcome.NoMemory e h = cc
 
 module _ (f : Option Frame) (first : State) (steps n : ℕ) (s t : State) (reached : Reaches first n s) (fewer : n < steps) where
-  stop_shown : (r : Report) (why : Stop) (e : End) → Comes (taken_up s) (step s) s (Stopped why t) → (let plain : Result (Option End) TraceFault = Ok (Some (end_of why)) in plain ≡ Ok (Some e)) → Shows f r t e n → Stops f first steps r
+  stop_shown : (r : Report) (why : Stop) (e : End) → Comes (applied_by s) (step s) s (Stopped why t) → (let plain : Result (Option End) TraceFault = Ok (Some (end_of why)) in plain ≡ Ok (Some e)) → Shows f r t e n → Stops f first steps r
   stop_shown r why e h same shown = record {
     done = n;
     fewer = fewer;

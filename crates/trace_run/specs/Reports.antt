@@ -10,7 +10,7 @@ use Rattle.x86_insn.specs.Flags.{flag_image}
 use Rattle.x86_insn.specs.State.{State, Stopped}
 use Rattle.x86_insn.specs.Step.{step}
 use Rattle.x86_insn.specs.Run.{state_after}
-use Rattle.x86_insn.specs.TakenUp.{taken_up}
+use Rattle.x86_insn.specs.TakenUp.{applied_by}
 use Rattle.proc_image.specs.Loading.{loaded_size, IsTooLarge}
 use Rattle.proc_image.specs.Stack.{stack_taken}
 use Rattle.x86_machine.specs.Bounded.{apply_bounded, Beyond, IsWithin}
@@ -24,9 +24,9 @@ use Rattle.trace_run.specs.Counts.{counts_of}
 
 -- ---- runs
 
--- a step from a state keeps the bound on mapped pages: of the effects that it takes up no map goes beyond it
+-- a step from a state keeps the bound on mapped pages: of the effects that it applies no map goes beyond it
 abbrev pub KeepsBound : State → Type 0
-KeepsBound s = IsWithin (apply_bounded s.memory (taken_up s))
+KeepsBound s = IsWithin (apply_bounded s.memory (applied_by s))
 
 -- n steps complete, lead from the first state to this one, and each keeps the bound
 pub record Reaches (first : State) (n : ℕ) (s : State) : Type 0 where
@@ -82,7 +82,7 @@ pub record Stops (f : Option Frame) (first : State) (steps : ℕ) (r : Report) :
   pub stopped : step before ≡ Stopped why after
   pub shown : Shows f r after (end_of why) done
 
--- fewer steps complete, and the next one takes up a map that isn't refused and leaves mapped pages of n bytes, which
+-- fewer steps complete, and the next one comes to a map that isn't refused and leaves mapped pages of n bytes, which
 -- are more than are allowed
 pub record MapsBeyond (first : State) (steps n : ℕ) : Type 0 where
   pub done : ℕ
@@ -90,7 +90,7 @@ pub record MapsBeyond (first : State) (steps n : ℕ) : Type 0 where
   pub before : State
   pub reached : Reaches first done before
   pub left : Memory
-  pub beyond : apply_bounded before.memory (taken_up before) ≡ Beyond n left
+  pub beyond : apply_bounded before.memory (applied_by before) ≡ Beyond n left
 
 -- the run of a file with this frame, or with none, completes all steps, or stops before
 pub data Runs (f : Option Frame) (first : State) (steps : ℕ) (r : Report) : Type 0 where

@@ -1,7 +1,7 @@
 //! Running a file.
 
 ghost use Rattle.std.specs.Prelude.{◌≡◌, ◌≤◌, IfOk, List, length};
-ghost use Rattle.mv_base.specs.Effects.{Answer};
+ghost use Rattle.mv_base.specs.Effects.{Answer, descriptors_in};
 ghost use Rattle.elf32_read.specs.Reading.{IsImage};
 ghost use Rattle.elf32_write.specs.Frame.{frame};
 ghost use Rattle.syscall_log.specs.Meaning.{answers_of};
@@ -46,7 +46,7 @@ const CLEAR_FLAGS: u32 = 0x202;
 /// # Errors
 ///
 /// `TooLarge`, exactly where the pages of the file and the stack have more than 67,108,864 bytes, or where a step that
-/// is tried takes up a map that isn't refused and would leave pages of more bytes mapped; `NoMemory`.
+/// is tried comes to a map that isn't refused and would leave pages of more bytes mapped; `NoMemory`.
 pub fn trace(
     alloc: Global,
     bytes: &[u8],
@@ -73,7 +73,8 @@ fn run(
     log: &Log,
     steps: u64,
 ) -> Result<Report, TraceFault>
-    requires { length log.now.answers ≤ machine.calls.spare }
+    requires room { length log.now.answers ≤ machine.calls.spare }
+    requires descs { descriptors_in (answers_of log.now.answers) ≤ machine.descs.spare }
     ensures { IsRun (frame file.now) (state_of machine (answers_of log.now.answers)) steps
         result }
 {

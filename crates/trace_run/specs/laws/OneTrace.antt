@@ -13,7 +13,7 @@ use Rattle.x86_insn.specs.State.{State, Outcome, Next, Stopped}
 use Rattle.x86_insn.specs.Flags.{flag_image}
 use Rattle.x86_insn.specs.Step.{step}
 use Rattle.x86_insn.specs.Run.{next_of, next_state, state_after}
-use Rattle.x86_insn.specs.TakenUp.{taken_up}
+use Rattle.x86_insn.specs.TakenUp.{applied_by}
 use Rattle.proc_image.specs.Loading.{IsTooLarge}
 use Rattle.proc_image.specs.Stack.{stack_taken}
 use Rattle.x86_machine.specs.Bounded.{Bounded, Beyond, IsWithin, apply_bounded}
@@ -115,7 +115,7 @@ beyond_ends first steps n h =
     record {
       most = omega arith;
       reached = h.reached;
-      over = λ l u e k. beyond_within (apply_bounded h.before.memory (taken_up h.before)) n h.left h.beyond k;
+      over = λ l u e k. beyond_within (apply_bounded h.before.memory (applied_by h.before)) n h.left h.beyond k;
     }
 
 -- ---- two outcomes of one run
@@ -174,7 +174,7 @@ beyond_size n m s t e = cc
 beyond_beyond : (first : State) (steps n m : ℕ) → MapsBeyond first steps n → MapsBeyond first steps m → n ≡ m
 beyond_beyond first steps n m h k =
     let one = one_end first steps h.done k.done h.before k.before (beyond_ends first steps n h) (beyond_ends first steps m k) in
-    beyond_size n m h.left k.left (sym h.beyond ∙ ap (λ s. apply_bounded s.memory (taken_up s)) one.state ∙ k.beyond)
+    beyond_size n m h.left k.left (sym h.beyond ∙ ap (λ s. apply_bounded s.memory (applied_by s)) one.state ∙ k.beyond)
 
 one_report : (f : Option Frame) (first : State) (steps : ℕ) (r q : Report) → Runs f first steps r → Runs f first steps q → ShowSame r q
 one_report f first steps r q (ToAll h) (ToAll k) = all_all f first steps r q h k

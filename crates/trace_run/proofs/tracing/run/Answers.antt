@@ -3,16 +3,17 @@ use Rattle.elf32_write.specs.Frame.{frame}
 use Rattle.syscall_log.specs.Meaning.{answers_of}
 use Rattle.x86_machine.specs.Stepping.{answers_from, state_of}
 use Rattle.trace_run.specs.Reports.{Reaches, ToAll, ToStop}
-use Rattle.trace_run.proofs.Running.{begins, goes, goes_on, ends}
+use Rattle.trace_run.proofs.Running.{begins, completes, goes, goes_on, ends}
 use Rattle.trace_run.proofs.tracing.run.Goals as goal
 
 pub loop-done-init : goal.loop-done-init
 loop-done-init c =
-    let enough = c.requires in
+    let enough = c.requires.room in
     record {
       log = refl;
       next = omega arith;
       room = omega arith;
+      descs = c.requires.descs;
       reached = begins (state_of c.args.machine (answers_of c.args.log.now.answers));
     }
 
@@ -34,6 +35,7 @@ loop-done-preserved c =
       log = c.step-outcome.ensures.log ∙ c.loop-done.invariant.log;
       next = c.step-outcome.ensures.next;
       room = c.step-outcome.ensures.room;
+      descs = c.step-outcome.ensures.descs (completes c.step-outcome.result going);
       reached = goes_on _ c.loop-done.done before after c.loop-done.invariant.reached
           (goes before after c.step-outcome.result going c.step-outcome.ensures.is);
     }
