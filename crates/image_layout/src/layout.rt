@@ -199,15 +199,8 @@ fn lay_at<F: Question>(
     } = measured;
     let stub_len = stub_len(runs.len());
     let first = base + stub_len as u32;
-    let pairs = entry_pairs(
-        alloc,
-        sites,
-        addresses.as_slice(),
-        chains,
-        hooks,
-        lens.as_slice(),
-        first,
-    )?;
+    let (at, lens) = (addresses.as_slice(), lens.as_slice());
+    let pairs = entry_pairs(alloc, sites, at, chains, hooks, lens, first)?;
     let lo = base + up(stub_len as u64 + chains_len) as u32;
     let table = Table::build(alloc, runs, &pairs, lo)?;
     let run_places = run_places(alloc, runs, table.dirs(), lo)?;

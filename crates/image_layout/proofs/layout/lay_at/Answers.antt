@@ -28,7 +28,7 @@ pub entry_pairs-requires-clause-room : goal.entry_pairs-requires-clause-room
 entry_pairs-requires-clause-room g c =
     let is : AreLaid c.args.runs.now c.args.sites.now c.args.chains.now = record { runs = c.requires.runs; sites = c.requires.sites; once = c.requires.once; linked = c.requires.linked } in
     let has = has_base c.args.hooks.now c.args.runs.now c.args.sites.now c.args.chains.now is c.args.image.now.segments c.args.base c.requires.base_is in
-    omega (arith, c.stub_len-stub_len.ensures, has.low, lens_room c.args.hooks.now c.args.chains.now c.args.sites.now c.as_slice-2.result.now (c.as_slice-2.ensures ∙ c.requires.measured.lens), up-le (code_len c.args.hooks.now c.args.runs.now c.args.sites.now c.args.chains.now))
+    omega (arith, c.stub_len-stub_len.ensures, has.low, lens_room c.args.hooks.now c.args.chains.now c.args.sites.now c.as_slice-lens.result.now (c.as_slice-lens.ensures ∙ c.requires.measured.lens), up-le (code_len c.args.hooks.now c.args.runs.now c.args.sites.now c.args.chains.now))
 
 pub overflow_add-stub_len : goal.overflow_add-stub_len
 overflow_add-stub_len g c =
