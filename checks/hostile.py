@@ -296,7 +296,8 @@ def some_log(rng):
     size = lambda: f"{rng.choice((0, 1, PAGE, PAGE, 3 * PAGE, edge(rng) % 0x100000)):08x}"
     forms = (lambda: f"ret {rng.getrandbits(32):08x}", lambda: f"ret {rng.getrandbits(8):08x}", lambda: f"write {at()} {pairs()}",
              lambda: f"map {at()} {size()} {rng.choice('rwwx')} {rng.choice(('-', pairs()))}", lambda: f"unmap {at()} {size()}",
-             lambda: "gone", lambda: f"arg {rng.choice(('-', pairs()))}")
+             lambda: f"desc {rng.choice((0, 1, 6, 8191, 8192, edge(rng))):08x} {at()}",
+             lambda: f"cpuid {at()} {at()} {at()} {at()}", lambda: "gone", lambda: f"arg {rng.choice(('-', pairs()))}")
     lines = ["log 1"] + [f"arg {rng.choice(('-', '61', '6162'))}" for _ in range(rng.randrange(3))]
     lines += [rng.choice(forms)() for _ in range(rng.choice((0, 1, 2, 4, 8)))]
     text = "".join(line + "\n" for line in lines)

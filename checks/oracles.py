@@ -135,9 +135,14 @@ PAIRS = rb"(?:[0-9a-f]{2})+"
 ARGUMENT = re.compile(rb"arg (-|%s)" % PAIRS)
 EFFECTS = (re.compile(rb"(write) (%s) (%s)()()" % (WORD, PAIRS)), re.compile(rb"(unmap) (%s)() (%s)()" % (WORD, WORD)),
            re.compile(rb"(map) (%s)() (%s) [rwx] (-|%s)" % (WORD, WORD, PAIRS)))
+DESCRIPTOR = re.compile(rb"desc (%s) %s" % (WORD, WORD))
+RETURN, IDENTITY = re.compile(rb"ret %s" % WORD), re.compile(rb"cpuid %s %s %s %s" % (WORD, WORD, WORD, WORD))
 
 
 def is_effect(line):
+    descriptor = DESCRIPTOR.fullmatch(line)
+    if descriptor:
+        return 1 <= int(descriptor[1], 16) <= 8191
     for form in EFFECTS:
         found = form.fullmatch(line)
         if found:
@@ -168,7 +173,7 @@ def bad_line(log):
     """The number of the first line up to which no log goes; None where the bytes are a log."""
     lines = log.split(b"\n")
     ended, rest = lines[:-1], lines[-1]
-    arguments, taken, answered, gone = 0, 0, False, False
+    arguments, taken, answered, returned, gone = 0, 0, False, False, False
     for number, line in enumerate(ended, 1):
         argument = ARGUMENT.fullmatch(line)
         if number == 1:
@@ -179,10 +184,10 @@ def bad_line(log):
             data = b"" if argument[1] == b"-" else bytes.fromhex(argument[1].decode())
             arguments, taken = arguments + 1, taken + len(data) + 1
             good = not answered and 0 not in data and arguments <= 1024 and taken <= 65536
-        elif line == b"gone" or re.fullmatch(rb"ret %s" % WORD, line):
-            good, answered, gone = True, True, line == b"gone"
+        elif line == b"gone" or RETURN.fullmatch(line) or IDENTITY.fullmatch(line):
+            good, answered, returned, gone = True, True, line.startswith(b"ret"), line == b"gone"
         else:
-            good = answered and is_effect(line)
+            good = returned and is_effect(line)
         if not good:
             return number
     return len(ended) + 1 if rest or not ended else None

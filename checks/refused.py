@@ -58,7 +58,7 @@ def main():
     tried, refused, bad = 0, 0, []
     for name, image in IMAGES.items():
         with open("in", "wb") as file, open("log", "w") as log:
-            file.write(image), log.write("log 1\narg 61\nret 00000004\nmap 40000000 00001000 w 6162\ngone\n")
+            file.write(image), log.write("log 1\narg 61\nret 00000004\nmap 40000000 00001000 w 6162\ndesc 00000006 40000000\ngone\n")
         run(multiverse, shim, ("rewrite", "in", "out", "--count=all"), 0), os.replace("out", "whole")
         for words in COMMANDS:
             whole = run(multiverse, shim, words, 0)
