@@ -25,6 +25,8 @@ pub fn done_inside(insn: &Insn, core: &mut Core) -> bool
     ensures done { (descs : Descs) → IsInside (round insn.now descs core.old []) core.old core.new
         result }
     ensures once { result ≡ true → limit insn.now core.old ≡ 1 }
+    ensures gs { core.new.gs ≡ core.old.gs }
+    ensures base { core.new.gs_base ≡ core.old.gs_base }
 {
     match insn {
         Insn::Alu {
@@ -109,8 +111,10 @@ fn put_reg(width: Width, reg: Reg, value: u32, core: &mut Core)
 #[inline]
 #[tactic(auto, unfolding(x86_insn::specs::Ask::got_rm))]
 fn alu_inside(op: AluOp, width: Width, dst: &Rm, src: &Src, core: &mut Core) -> bool
-    ensures { IsInside (unless_beyond (rm_beyond core.old dst.now || src_beyond core.old src.now)
+    ensures is { IsInside (unless_beyond (rm_beyond core.old dst.now || src_beyond core.old src.now)
         (alu_round op width dst.now src.now core.old [])) core.old core.new result }
+    ensures gs { core.new.gs ≡ core.old.gs }
+    ensures base { core.new.gs_base ≡ core.old.gs_base }
 {
     let Rm::R(reg) = dst else {
         return false;
@@ -131,8 +135,10 @@ fn alu_inside(op: AluOp, width: Width, dst: &Rm, src: &Src, core: &mut Core) -> 
 #[inline]
 #[tactic(auto, unfolding(x86_insn::specs::Ask::got_rm))]
 fn test_inside(width: Width, dst: &Rm, src: &Src, core: &mut Core) -> bool
-    ensures { IsInside (unless_beyond (rm_beyond core.old dst.now || src_beyond core.old src.now)
+    ensures is { IsInside (unless_beyond (rm_beyond core.old dst.now || src_beyond core.old src.now)
         (test_round width dst.now src.now core.old [])) core.old core.new result }
+    ensures gs { core.new.gs ≡ core.old.gs }
+    ensures base { core.new.gs_base ≡ core.old.gs_base }
 {
     let Rm::R(reg) = dst else {
         return false;
@@ -147,8 +153,10 @@ fn test_inside(width: Width, dst: &Rm, src: &Src, core: &mut Core) -> bool
 
 #[inline]
 fn mov_inside(width: Width, dst: &Rm, src: &Src, core: &mut Core) -> bool
-    ensures { IsInside (unless_beyond (rm_beyond core.old dst.now || src_beyond core.old src.now)
+    ensures is { IsInside (unless_beyond (rm_beyond core.old dst.now || src_beyond core.old src.now)
         (mov_round width dst.now src.now core.old [])) core.old core.new result }
+    ensures gs { core.new.gs ≡ core.old.gs }
+    ensures base { core.new.gs_base ≡ core.old.gs_base }
 {
     let Rm::R(reg) = dst else {
         return false;
@@ -162,7 +170,9 @@ fn mov_inside(width: Width, dst: &Rm, src: &Src, core: &mut Core) -> bool
 
 #[inline]
 fn lea_inside(width: Width, dst: Reg, mem: &Mem, core: &mut Core) -> bool
-    ensures { IsInside (lea_round width dst mem.now core.old) core.old core.new result }
+    ensures is { IsInside (lea_round width dst mem.now core.old) core.old core.new result }
+    ensures gs { core.new.gs ≡ core.old.gs }
+    ensures base { core.new.gs_base ≡ core.old.gs_base }
 {
     let value = at_width(width, effective_address(core, mem));
     put_reg(width, dst, value, core);
@@ -172,8 +182,10 @@ fn lea_inside(width: Width, dst: Reg, mem: &Mem, core: &mut Core) -> bool
 #[inline]
 #[tactic(auto, unfolding(x86_insn::specs::Ask::got_rm))]
 fn bump_inside(up: bool, width: Width, dst: &Rm, core: &mut Core) -> bool
-    ensures { IsInside (unless_beyond (rm_beyond core.old dst.now)
+    ensures is { IsInside (unless_beyond (rm_beyond core.old dst.now)
         (bump_round up width dst.now core.old [])) core.old core.new result }
+    ensures gs { core.new.gs ≡ core.old.gs }
+    ensures base { core.new.gs_base ≡ core.old.gs_base }
 {
     let Rm::R(reg) = dst else {
         return false;
@@ -188,8 +200,10 @@ fn bump_inside(up: bool, width: Width, dst: &Rm, core: &mut Core) -> bool
 #[inline]
 #[tactic(auto, unfolding(x86_insn::specs::Ask::got_rm))]
 fn shift_inside(op: ShiftOp, width: Width, dst: &Rm, count: Count, core: &mut Core) -> bool
-    ensures { IsInside (unless_beyond (rm_beyond core.old dst.now)
+    ensures is { IsInside (unless_beyond (rm_beyond core.old dst.now)
         (shift_round op width dst.now count core.old [])) core.old core.new result }
+    ensures gs { core.new.gs ≡ core.old.gs }
+    ensures base { core.new.gs_base ≡ core.old.gs_base }
 {
     let Rm::R(reg) = dst else {
         return false;
@@ -208,8 +222,10 @@ fn shift_inside(op: ShiftOp, width: Width, dst: &Rm, count: Count, core: &mut Co
 #[inline]
 #[tactic(auto, unfolding(x86_insn::specs::Ask::got_rm))]
 fn movx_inside(signed: bool, from: Width, to: Width, dst: Reg, src: &Rm, core: &mut Core) -> bool
-    ensures { IsInside (unless_beyond (rm_beyond core.old src.now)
+    ensures is { IsInside (unless_beyond (rm_beyond core.old src.now)
         (movx_round signed from to dst src.now core.old [])) core.old core.new result }
+    ensures gs { core.new.gs ≡ core.old.gs }
+    ensures base { core.new.gs_base ≡ core.old.gs_base }
 {
     let Rm::R(reg) = src else {
         return false;

@@ -1,9 +1,11 @@
 //! The user machine: a memory, eight registers, flags, GS, descriptors, and the calls made.
 
-ghost use Rattle.std.specs.Prelude.{◌≡◌, ◌+◌, ◌-◌, ◌≤◌, [], ℕ, List, length, slice_set};
+ghost use Rattle.std.specs.Prelude.{◌≡◌, ◌+◌, ◌-◌, ◌≤◌, [], ℕ, List, length, slice_set, true};
 ghost use Rattle.mv_base.specs.Effects.{Answer as AnswerOf};
+ghost use Rattle.x86_insn.specs.declared.insn.Flow.TheVariants.{Plain};
+ghost use Rattle.x86_insn.specs.Flow.{flow_of};
 ghost use Rattle.x86_insn.specs.Round.{limit, hop};
-ghost use Rattle.x86_insn.specs.Step.{Found, fetch as fetch_of, call_of, rounds, turn, after_rounds, after_hop, system, identified, is_cpuid, plainly};
+ghost use Rattle.x86_insn.specs.Step.{Found, fetch as fetch_of, call_of, rounds, turn, after_rounds, after_hop, system, identified, is_cpuid};
 ghost use Rattle.x86_insn.specs.TakenUp.{first_effects};
 ghost use Rattle.proc_image.specs.Paged.{cells};
 ghost use Rattle.x86_machine.specs.Stepping.{answers_from, core_of, state_of, outcome_of, refused_as, ComesTo, IsStep, KeepsRoom, HasRoom};
@@ -132,9 +134,11 @@ impl Machine {
         ensures spare { KeepsRoom self.old self.new }
     {
         let next = self.eip.wrapping_add(u32::from(len));
+        if is_cpuid(insn) {
+            return self.identify(next, answers);
+        }
         match insn.next_kind() {
-            Flow::Plain => self.run_plain(insn, next, answers),
-            Flow::Trap => self.run(insn, next),
+            Flow::Plain | Flow::Trap => self.run(insn, next),
             Flow::System => self.call_system(next, answers),
             Flow::Jump
             | Flow::Branch
@@ -175,28 +179,20 @@ impl Machine {
         self.gs_base = core.gs_base;
     }
 
-    /// An instruction of flow Plain; `next` is the address after it.
-    fn run_plain(&mut self, insn: &Insn, next: u32, answers: &mut Answers) -> Outcome
-        requires next { answers.old.next ≤ length answers.old.log.now.answers }
-        requires room { length answers.old.log.now.answers ≤ self.old.calls.spare +
-            answers.old.next }
-        requires descs { HasRoom self.old answers.old.log.now answers.old.next }
-        ensures is { ComesTo [] (plainly (is_cpuid insn.now)
-            (state_of self.old (answers_from answers.old.log.now answers.old.next)) insn.now next)
-            (state_of self.old (answers_from answers.old.log.now answers.old.next)) result
-            (state_of self.new (answers_from answers.new.log.now answers.new.next)) }
-        ensures log { answers.new.log.now ≡ answers.old.log.now }
-        ensures next { answers.new.next ≤ length answers.new.log.now.answers }
-        ensures room { length answers.new.log.now.answers ≤ self.new.calls.spare +
-            answers.new.next }
-        ensures descs { result ≡ Next → HasRoom self.new answers.new.log.now answers.new.next }
-        ensures spare { KeepsRoom self.old self.new }
+    /// The same where GS is as it was.
+    fn set_inside(&mut self, core: Core)
+        requires gs { core.gs ≡ self.old.gs }
+        requires base { core.gs_base ≡ self.old.gs_base }
+        ensures { self.new ≡ record self.old {
+          regs = core.regs;
+          flags = core.flags;
+          gs = core.gs;
+          gs_base = core.gs_base;
+        } }
     {
-        if is_cpuid(insn) {
-            self.identify(next, answers)
-        } else {
-            self.run(insn, next)
-        }
+        let regs = core.regs;
+        self.regs = regs;
+        self.flags = core.flags;
     }
 
     /// An instruction of flow Plain but CPUID, or of flow Trap; `next` is the address after it.
@@ -211,7 +207,7 @@ impl Machine {
     {
         let mut core = self.core();
         if done_inside(insn, &mut core) {
-            self.set_core(core);
+            self.set_inside(core);
             self.eip = next;
             return Outcome::Next;
         }
@@ -368,7 +364,8 @@ fn with_words(regs: [u32; 8], eax: u32, ebx: u32, ecx: u32, edx: u32) -> [u32; 8
 
 /// Whether an instruction is CPUID.
 fn is_cpuid(insn: &Insn) -> bool
-    ensures { result ≡ is_cpuid insn.now }
+    ensures is { result ≡ is_cpuid insn.now }
+    ensures plain { result ≡ true → flow_of insn.now ≡ Plain }
 {
     matches!(insn, Insn::Cpuid)
 }

@@ -79,6 +79,7 @@ fn index_part(core: &Core, index: Option<(Reg, u8)>) -> u32
 }
 
 /// GS's base, where the operand is relative to it; 0 where GS has none.
+#[inline]
 fn segment_part(core: &Core, gs: bool) -> u32
     ensures { result ≡ segment_part core.now gs }
 {
@@ -92,6 +93,7 @@ fn segment_part(core: &Core, gs: bool) -> u32
 }
 
 /// GS's base where the operand is relative to it, base, index times its factor, and displacement, modulo 2^32.
+#[inline]
 pub fn effective_address(core: &Core, mem: &Mem) -> u32
     ensures { result ≡ effective_address core.now mem.now }
 {

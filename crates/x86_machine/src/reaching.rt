@@ -6,12 +6,14 @@ ghost use Rattle.x86_insn.specs.Round.{rm_beyond, src_beyond, pop_beyond, stands
 
 use x86_insn::{AccessBytes, Core, Insn, Mem, Rm, Src};
 
+#[inline]
 fn is_beyond(core: &Core, mem: &Mem) -> bool
     ensures { result ≡ is_beyond core.now mem.now }
 {
     mem.gs && core.gs_base.is_none()
 }
 
+#[inline]
 fn rm_beyond(core: &Core, operand: &Rm) -> bool
     ensures { result ≡ rm_beyond core.now operand.now }
 {
@@ -21,6 +23,7 @@ fn rm_beyond(core: &Core, operand: &Rm) -> bool
     }
 }
 
+#[inline]
 fn src_beyond(core: &Core, operand: &Src) -> bool
     ensures { result ≡ src_beyond core.now operand.now }
 {
