@@ -224,7 +224,7 @@ def plain(text):
     text = re.sub(r"^mov ((gs:)?\[.*),(al|ax|eax)$", lambda mov: f"mov {WIDTHS[mov.group(3)]} {mov.group(1)},{mov.group(3)}", text)
     text = re.sub(r"^mov gs,e(\w\w)$", r"mov gs,\1", text)
     text = re.sub(r",1$", ",0x1", text)
-    if text.startswith(("ret", "pause")):
+    if text.startswith(("ret", "pause", "endbr32")):
         return text.removesuffix(" 0x0")
     return repeat + re.sub(r"^\w+", lambda name: NAMES.get(name.group(0), name.group(0)), text)
 

@@ -9,7 +9,7 @@ as short as the assembler's, and not above it in byte order where both are equal
 """
 import os, random, re, subprocess, sys, tempfile
 
-from decode import BY_OPCODE, FIRST, PREFIXES, SEGMENTS, SHOWN, SLOT, body, dump, plain, slots
+from decode import BY_OPCODE, FIRST, GS, SEGMENTS, SHOWN, SLOT, body, dump, plain, slots
 from oracles import read_frame, small_image
 
 ROWS = [row for row in BY_OPCODE[0xFF] if row.modrm in (2, 4)]
@@ -20,7 +20,8 @@ def samples(rng):
     for row in ROWS:
         for modrm in [mod << 6 | rm for mod in range(4) for rm in range(8)]:
             for sib in [rng.randrange(256) for _ in range(24)] if modrm & 7 == 4 and modrm < 0xC0 else (None,) * 6:
-                front = bytes([rng.choice(SEGMENTS)]) if rng.random() < .2 else b""
+                segment = rng.choice(SEGMENTS)
+                front = bytes([segment]) if rng.random() < .3 and (segment != GS or modrm < 0xC0) else b""
                 yield front + body(rng, row, modrm, sib)
 
 
@@ -44,8 +45,8 @@ def loads(multiverse, made):
 def assembled(lines):
     """The assembler's bytes of each line, or None where there is no assembler for i386."""
     with tempfile.TemporaryDirectory() as work:
-        text = "".join(f".p2align 5,0x90\n{line}\n" for line in lines)
-        command = ["as", "--32", "-msyntax=intel", "-mnaked-reg", "-o", f"{work}/code.o", "-"]
+        text = ".intel_syntax noprefix\n" + "".join(f".p2align 5,0x90\n{line}\n" for line in lines)
+        command = ["as", "--32", "-o", f"{work}/code.o", "-"]
         try:
             if subprocess.run(command, input=text, capture_output=True, text=True).returncode != 0:
                 return None
