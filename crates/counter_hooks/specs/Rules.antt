@@ -33,6 +33,16 @@ IsAscending rule.Returns = Unit {0}
 IsAscending rule.Branches = Unit {0}
 IsAscending rule.System = Unit {0}
 
+-- the number of a rule: this project's own
+abbrev pub number_of : Rule → ℕ
+number_of rule.None = 0
+number_of rule.All = 1
+number_of rule.Calls = 2
+number_of rule.Returns = 3
+number_of rule.Branches = 4
+number_of rule.System = 5
+number_of (rule.At _) = 6
+
 -- direct calls, and calls through an operand
 abbrev pub is_call : Flow → Bool
 is_call flow.Call = true

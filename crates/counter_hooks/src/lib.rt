@@ -14,7 +14,7 @@ pub mod rules;
 pub use code::{counter_len, counter_piece};
 pub use hooks::{Hooks, Question};
 pub use rule_text::{is_rule, read_rule};
-pub use rules::{Rule, picked};
+pub use rules::{Rule, picked, rule_number};
 
 #[cfg(test)]
 mod tests;

@@ -1,7 +1,7 @@
 //! Rules: which sites are counted.
 
 ghost use Rattle.std.specs.Prelude.{◌≡◌, IfOk};
-ghost use Rattle.counter_hooks.specs.Rules.{IsAscending, picked as is_picked};
+ghost use Rattle.counter_hooks.specs.Rules.{IsAscending, number_of, picked as is_picked};
 
 use mv_base::{Addrs, NoMemory};
 use std::alloc::Global;
@@ -37,6 +37,21 @@ impl Rule {
             Rule::System => Rule::System,
             Rule::At(addresses) => Rule::At(Addrs::new(addresses.as_slice().to_vec(alloc)?)),
         })
+    }
+}
+
+/// The number of a rule, 0 to 6: none, all, calls, returns, branches, system, listed addresses. This project's own.
+pub fn rule_number(rule: &Rule) -> u8
+    ensures { result ≡ number_of rule.now }
+{
+    match rule {
+        Rule::None => 0,
+        Rule::All => 1,
+        Rule::Calls => 2,
+        Rule::Returns => 3,
+        Rule::Branches => 4,
+        Rule::System => 5,
+        Rule::At(_) => 6,
     }
 }
 

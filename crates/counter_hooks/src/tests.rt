@@ -7,7 +7,7 @@ ghost use Rattle.counter_hooks.specs.Rules.{IsAscending, Tells, picked as is_pic
 use crate::code::{counter_len, counter_piece};
 use crate::hooks::{Hooks, Question};
 use crate::rule_text::{is_rule, read_rule};
-use crate::rules::{Rule, picked};
+use crate::rules::{Rule, picked, rule_number};
 use mv_base::{Addrs, NoMemory};
 use std::alloc::Global;
 use std::test::Fail;
@@ -64,6 +64,18 @@ fn rules_pick_by_flow(rt: HostRuntime) {
     assert!(rt; picked(&Rule::System, &site(0x1000, Insn::Int80)));
     assert!(rt; picked(&Rule::All, &site(0x1000, Insn::Nop)));
     assert!(rt; !picked(&Rule::None, &site(0x1000, Insn::Nop)));
+}
+
+#[test]
+fn rules_have_numbers(rt: HostRuntime) -> Result<(), Fail> {
+    assert_eq!(rt; rule_number(&Rule::None), 0);
+    assert_eq!(rt; rule_number(&Rule::All), 1);
+    assert_eq!(rt; rule_number(&Rule::Calls), 2);
+    assert_eq!(rt; rule_number(&Rule::Returns), 3);
+    assert_eq!(rt; rule_number(&Rule::Branches), 4);
+    assert_eq!(rt; rule_number(&Rule::System), 5);
+    assert_eq!(rt; rule_number(&at(rt.alloc(), 0x1000)?), 6);
+    Ok(())
 }
 
 #[test]

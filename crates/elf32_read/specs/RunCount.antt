@@ -98,12 +98,12 @@ bytes_len-runs_of b whole = bytes_len-runs_in b 0 (segments b) (ArePlaced-whole 
 within_limit : (most n : ℕ) (f : ImageFault) → fault_if (nat_lt most n) f ≡ None → n ≤ most
 within_limit most n f none = grind (arith, nat_tests)
 
-pub code_size-admitted : (b : List ℕ) → limit_fault b ≡ None → code_size (segments b) ≤ 4194304
+pub code_size-admitted : (b : List ℕ) → limit_fault b ≡ None → code_size (segments b) ≤ 16777216
 unfolding limit_fault
 code_size-admitted b admitted =
-    within_limit 4194304 (code_size (segments b)) CodeTooLarge (or_else-none (fault_if (nat_lt 4194304 (code_size (segments b))) CodeTooLarge) _ admitted).0
+    within_limit 16777216 (code_size (segments b)) CodeTooLarge (or_else-none (fault_if (nat_lt 16777216 (code_size (segments b))) CodeTooLarge) _ admitted).0
 
 pub header_count-admitted : (b : List ℕ) → limit_fault b ≡ None → header_count b ≤ 61
 unfolding limit_fault
 header_count-admitted b admitted =
-    within_limit 61 (header_count b) HeadersFull (or_else-none (fault_if (nat_lt 4194304 (code_size (segments b))) CodeTooLarge) _ admitted).1
+    within_limit 61 (header_count b) HeadersFull (or_else-none (fault_if (nat_lt 16777216 (code_size (segments b))) CodeTooLarge) _ admitted).1

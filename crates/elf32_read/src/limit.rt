@@ -8,7 +8,7 @@ use crate::fault::ImageFault;
 use crate::image::{Image, Segment};
 
 /// The most executable bytes of an image that is rewritten (this project's own).
-const MOST_CODE: u64 = 4_194_304;
+const MOST_CODE: u64 = 16_777_216;
 
 /// The most program headers of an image that is rewritten, so that three more can be added (this project's own).
 const MOST_HEADERS: usize = 61;
@@ -17,7 +17,7 @@ const MOST_HEADERS: usize = 61;
 ///
 /// # Errors
 ///
-/// `CodeTooLarge` where the executable segments have more than 4,194,304 bytes together; else `HeadersFull` where
+/// `CodeTooLarge` where the executable segments have more than 16,777,216 bytes together; else `HeadersFull` where
 /// there are more than 61 program headers.
 pub fn admit(image: &Image) -> Result<(), ImageFault>
     ensures { MatchResult result (λ _. exceeded image.now ≡ None) (λ fault. exceeded image.now ≡
@@ -34,7 +34,7 @@ pub fn admit(image: &Image) -> Result<(), ImageFault>
 
 /// Whether executable segments have too many bytes together.
 fn has_too_much_code(segments: &[Segment]) -> bool
-    ensures { result ≡ nat_lt 4194304 (code_size segments.now) }
+    ensures { result ≡ nat_lt 16777216 (code_size segments.now) }
 {
     let mut size: u64 = 0;
     for segment in segments {

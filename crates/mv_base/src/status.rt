@@ -26,6 +26,8 @@ pub enum Status {
     SinkFault,
     /// A file, or the memory of a traced program, is over its limit.
     TooLarge,
+    /// The file has no frame: no rewrite wrote it.
+    NoFrame,
 }
 
 impl Status {
@@ -44,6 +46,7 @@ impl Status {
             Status::NoMemory => 8,
             Status::SinkFault => 9,
             Status::TooLarge => 10,
+            Status::NoFrame => 13,
         }
     }
 }
