@@ -14,7 +14,7 @@ use Rattle.elf32_read.specs.declared.image.Image.{Image}
 use Rattle.elf32_read.specs.declared.image.Phdr.{Phdr}
 use Rattle.elf32_read.specs.Fields.{headers, ident_rest}
 use Rattle.elf32_write.specs.declared.plan.Plan.{Plan}
-use Rattle.elf32_write.specs.File.{header_words, kept_header, with_added, table_of, place_words, record_words, new_headers, added_headers, elf_header, head, head_len, record_place, padded, file_of}
+use Rattle.elf32_write.specs.File.{header_words, kept_header, with_added, table_of, pair_words, place_words, record_words, new_headers, added_headers, elf_header, head, head_len, record_place, padded, file_of}
 use Rattle.elf32_write.specs.Format.{filled}
 use Rattle.elf32_write.specs.Writing.{header_bytes, is_above, record_front, front, HasHead}
 use Rattle.mv_base.specs.Words.{length-words, words-append}
@@ -111,8 +111,12 @@ header_parts base added hs k old t1 t2 t3 at e1 e2 e3 =
     ∙ (append_assoc old (spelled header_words front ++ spelled header_words added) (spelled header_words back) ∙ ap (λ (l : List ℕ). old ++ l) (sym bytes)))))
 
 -- how long the parts are
-pub length_table : (p : Plan) → length (table_of p) ≡ length p.table + 4 * length p.counted
-length_table p = omega (arith, length-append p.table (words p.counted), length-words p.counted)
+length-pairs : (qs : List (ℕ × ℕ)) → length (flat_map pair_words qs) ≡ 2 * length qs
+length-pairs [] = refl
+length-pairs (q ∷ qs) = omega (arith, length-pairs qs, length-append (pair_words q) (flat_map pair_words qs))
+
+pub length_table : (p : Plan) → length (table_of p) ≡ length p.table + 8 * length p.counted
+length_table p = omega (arith, length-append p.table (words (flat_map pair_words p.counted)), length-words (flat_map pair_words p.counted), length-pairs p.counted)
 
 -- the frame record, part by part
 pub record_parts : (input_len : ℕ) (p : Plan) (old t1 t2 : List ℕ) → t1 ≡ old ++ words (record_front input_len p) → t2 ≡ t1 ++ words (flat_map place_words p.runs)
@@ -163,7 +167,7 @@ length-places : (rs : List RunPlace) → length (flat_map place_words rs) ≡ 3 
 length-places [] = refl
 length-places (r ∷ rs) = omega (arith, length-places rs, length-append (place_words r) (flat_map place_words rs))
 
-pub length_record : (input_len : ℕ) (p : Plan) → length (words (record_words input_len p)) ≡ 64 + 12 * length p.runs
+pub length_record : (input_len : ℕ) (p : Plan) → length (words (record_words input_len p)) ≡ 72 + 12 * length p.runs
 unfolding record_words
 length_record input_len p = omega (arith, length-words (record_words input_len p), length-places p.runs)
 

@@ -1,14 +1,15 @@
 -- The runs of a frame record, one after the other.
-use Rattle.std.proofs.Common.{◌≡◌, ℕ, zero, suc, ◌+◌, ◌-◌, ◌*◌, ◌/◌, ◌%◌, ◌<◌, ◌≤◌, Bool, true, false, cond, ◌&&◌, List, [], ◌∷◌, length, map, Option, Some, None, eqb, ◌≢◌, refl, sym, ap, ◌∙◌, subst, arith}
+use Rattle.std.proofs.Common.{◌≡◌, ℕ, zero, suc, ◌+◌, ◌-◌, ◌*◌, ◌/◌, ◌%◌, ◌<◌, ◌≤◌, Bool, true, false, cond, ◌&&◌, List, [], ◌∷◌, length, map, Option, Some, None, eqb, nat_le, ◌≢◌, refl, sym, ap, ◌∙◌, subst, inl, inr, arith}
 use Rattle.std.specs.List.{range_with_len, slice_get, sum_by, list_all}
-use Rattle.std.proofs.lemmas.Bool.{and_parts, eqb-true, leb-true, eq-eqb, ne_eqb}
+use Rattle.std.proofs.lemmas.Bool.{and_parts, cases_lt, eqb-true, leb-true, eq-eqb, ne_eqb}
 use Rattle.std.proofs.lemmas.List.FromFn.{length-map-range_with_len}
 use Rattle.std.proofs.lemmas.List.Sums.{sum_by-cons}
 use Rattle.mv_base.specs.declared.range.RunPlace.{RunPlace}
 use Rattle.mv_base.specs.Memory.{within}
 use Rattle.mv_base.specs.Bytes.{word_at}
 use Rattle.mv_base.specs.Table.{run_of, flat_word, paged_word, group_count, page_named, page_at}
-use Rattle.elf32_write.specs.Frame.{field, frame_at, run_place_at, has_places, has_block, is_run, is_in_table, has_pages, has_part, has_runs, Frame, TableAt, table_at, frame_table, frame_entry}
+use Rattle.elf32_write.specs.Frame.{field, frame_at, run_place_at, rule_in, edge_rule_in, has_kinds, has_numbers, kind_at, has_places, has_block, is_run, is_in_table, has_pages, has_part, has_runs, Frame, TableAt, table_at, frame_table, frame_entry}
+use Rattle.elf32_write.specs.Rules.{edge_low}
 use Rattle.elf32_write.specs.Within.{within_parts}
 use Rattle.elf32_write.specs.Framing.{IsFramed}
 
@@ -112,10 +113,15 @@ search_end x a i n all le same = sym (same ∙ ap (λ (rs : List RunPlace). run_
 
 -- ---- the rules as facts
 
-pub framed : (x : List ℕ) → 0x1000 ≤ length x → 1 ≤ field x 2 → field x 2 ≤ 2 → field x 15 ≤ 64 → field x 3 ≤ 67108864 → has_places (frame_at x) ≡ true → has_block (frame_at x) ≡ true
-    → has_runs (table_at (frame_at x)) 0 (frame_at x).runs ≡ true → IsFramed x
+pub framed : (x : List ℕ) → 0x1000 ≤ length x → 1 ≤ field x 1 → field x 1 ≤ 2 → 1 ≤ field x 2 → field x 2 ≤ 2 → field x 15 ≤ 64 → field x 3 ≤ 268435456 → has_numbers x ≡ true → has_kinds (frame_at x) ≡ true → has_runs (table_at (frame_at x)) 0 (frame_at x).runs ≡ true → IsFramed x
 unfolding has_places has_block frame_at
-framed x room one two few short places block runs =
+framed x room first last one two few short numbers kinds runs =
+    let n3 = and_parts _ _ numbers in
+    let n2 = and_parts _ _ n3.0 in
+    let n1 = and_parts _ _ n2.0 in
+    let places = n1.0 in
+    let block = n1.1 in
+    let rules = and_parts _ _ n2.1 in
     let p7 = and_parts _ _ places in
     let p6 = and_parts _ _ p7.0 in
     let p5 = and_parts _ _ p6.0 in
@@ -127,6 +133,8 @@ framed x room one two few short places block runs =
     let b1 = and_parts _ _ b2.0 in
     record {
       room = room;
+      version_low = first;
+      version_high = last;
       form_low = one;
       form_high = two;
       few_runs = few;
@@ -135,11 +143,13 @@ framed x room one two few short places block runs =
       table = eqb-true _ _ p1.1;
       private_lo = eqb-true _ _ p2.1;
       first_counter = eqb-true _ _ p4.1;
-      counters = leb-true _ _ p5.1;
-      list = eqb-true _ _ p6.1;
+      list = record { fits = leb-true _ _ p5.1; place = eqb-true _ _ p6.1 };
       added = eqb-true _ _ p7.1;
       size = eqb-true _ _ b1.0;
       low = leb-true _ _ b2.1;
+      rule = leb-true _ _ rules.0;
+      edge_rule = edge_low (edge_rule_in x) rules.1;
+      kinds = kinds;
       runs = runs;
     }
 
@@ -266,6 +276,46 @@ page_holds t r all i n lt same holds = same ∙ (pages_next t r i n lt ∙ ap (�
 pub pages_end : (t : TableAt) (r : RunPlace) (all : Bool) (i n : ℕ) → n ≤ i → all ≡ pages_from t r i n → true ≡ all
 unfolding pages_from
 pages_end t r all i n le same = sym (same ∙ ap (λ k. list_all (page_test t r) (range_with_len i k)) (let none : n - i ≡ 0 = omega arith in none))
+
+-- ---- the kinds of counters, one after the other
+
+abbrev pub kind_test : Frame → ℕ → Bool
+kind_test f k = nat_le (kind_at f k) 2
+
+-- those from the i-th on of n
+unfoldable pub kinds_from : Frame → ℕ → ℕ → Bool
+kinds_from f i n = list_all (kind_test f) (range_with_len i (n - i))
+
+pub kinds_first : (f : Frame) (n : ℕ) → n ≡ f.counters → has_kinds f ≡ kinds_from f 0 n
+unfolding has_kinds kinds_from
+kinds_first f n e = ap (λ k. list_all (kind_test f) (range_with_len 0 k)) (let all : f.counters ≡ n - 0 = omega arith in all)
+
+kinds_next : (f : Frame) (i n : ℕ) → i < n → kinds_from f i n ≡ (kind_test f i && kinds_from f (i + 1) n)
+unfolding kinds_from
+kinds_next f i n lt = ap (λ k. list_all (kind_test f) (range_with_len i k)) (let more : n - i ≡ suc (n - (i + 1)) = omega arith in more)
+
+pub kind_fails : (f : Frame) (all : Bool) (i n : ℕ) → i < n → all ≡ kinds_from f i n → kind_test f i ≡ false → false ≡ all
+kind_fails f all i n lt same fails = sym (same ∙ (kinds_next f i n lt ∙ ap (λ s. s && kinds_from f (i + 1) n) fails))
+
+pub kind_holds : (f : Frame) (all : Bool) (i n : ℕ) → i < n → all ≡ kinds_from f i n → kind_test f i ≡ true → all ≡ kinds_from f (i + 1) n
+kind_holds f all i n lt same holds = same ∙ (kinds_next f i n lt ∙ ap (λ s. s && kinds_from f (i + 1) n) holds)
+
+pub kinds_end : (f : Frame) (all : Bool) (i n : ℕ) → n ≤ i → all ≡ kinds_from f i n → true ≡ all
+unfolding kinds_from
+kinds_end f all i n le same = sym (same ∙ ap (λ k. list_all (kind_test f) (range_with_len i k)) (let none : n - i ≡ 0 = omega arith in none))
+
+kind_all : (f : Frame) (n i k : ℕ) → list_all (kind_test f) (range_with_len i n) ≡ true → i ≤ k → k < i + n → kind_at f k ≤ 2
+kind_all f zero i k h le lt = absurd (omega arith)
+kind_all f (suc n) i k h le lt =
+    let p = and_parts (kind_test f i) (list_all (kind_test f) (range_with_len (i + 1) n)) h in
+    elim (cases_lt i k) [
+      | inl below ↦ kind_all f n (i + 1) k p.1 (omega (arith, below)) (omega (arith, lt))
+      | inr same ↦ let e : i ≡ k = omega (arith, same, le) in leb-true _ _ (subst (λ m. kind_test f m ≡ true) e p.0)
+    ]
+
+pub kind_low : (f : Frame) (k : ℕ) → has_kinds f ≡ true → k < f.counters → kind_at f k ≤ 2
+unfolding has_kinds
+kind_low f k h lt = kind_all f f.counters 0 k h (omega arith) (omega (arith, lt))
 
 -- ---- what a look-up reads, in each form
 

@@ -6,8 +6,6 @@ use Rattle.mv_base.specs.declared.range.RunPlace.{RunPlace}
 use Rattle.elf32_read.specs.declared.image.Phdr.{Phdr}
 use Rattle.elf32_read.specs.Fields.{headers, is_load, maps, ident_rest}
 use Rattle.elf32_write.specs.declared.plan.Plan.{Plan}
-use Rattle.elf32_write.specs.declared.plan.Form.{Form}
-use Rattle.elf32_write.specs.declared.plan.Form.TheVariants.{Flat, Paged}
 use Rattle.elf32_write.specs.Format.{filled, up, private_len}
 
 -- how many bytes stand before the input, and where among them the frame record
@@ -21,9 +19,13 @@ record_place = 0x900
 abbrev pub padded : List ℕ → List ℕ
 padded xs = filled (up (length xs)) xs
 
--- the table with the list of counted sites
+-- the words of a counter in the list: its address and its kind
+abbrev pub pair_words : ℕ × ℕ → List ℕ
+pair_words q = q.0 ∷ q.1 ∷ []
+
+-- the table with the list of counters
 abbrev pub table_of : Plan → List ℕ
-table_of p = p.table ++ words p.counted
+table_of p = p.table ++ words (flat_map pair_words p.counted)
 
 abbrev pub table_lo : Plan → ℕ
 table_lo p = p.base + up (length p.code)
@@ -74,14 +76,12 @@ unfoldable pub elf_header : List ℕ → ℕ → ℕ → List ℕ
 elf_header b entry count =
     (0x7F ∷ 0x45 ∷ 0x4C ∷ 0x46 ∷ 1 ∷ 1 ∷ 1 ∷ []) ++ ident_rest b ++ half 2 ++ half 3 ++ words (1 ∷ entry ∷ 52 ∷ 0 ∷ word_at b 36 ∷ []) ++ half 52 ++ half 32 ++ half count ++ half 0 ++ half 0 ++ half 0
 
--- the version of the frame record
+-- the version of the frame record that is written, and the number of its table's form
 abbrev pub frame_version : ℕ
-frame_version = 1
+frame_version = 2
 
--- the number of a table's form in the record
-abbrev pub form_number : Form → ℕ
-form_number Flat = 1
-form_number Paged = 2
+abbrev pub paged_form : ℕ
+paged_form = 2
 
 -- 4D 56 46 52
 abbrev pub frame_magic : ℕ
@@ -93,7 +93,7 @@ place_words r = r.lo ∷ r.len ∷ r.dir ∷ []
 -- the words of the frame record
 unfoldable pub record_words : ℕ → Plan → List ℕ
 record_words input_len p =
-    (frame_magic ∷ frame_version ∷ form_number p.form ∷ input_len ∷ p.base ∷ added_len p ∷ p.base ∷ length p.code ∷ table_lo p ∷ length (table_of p) ∷ private_lo p ∷ 64 ∷ (private_lo p + 64) ∷ length p.counted ∷ list_lo p ∷ length p.runs ∷ [])
+    (frame_magic ∷ frame_version ∷ paged_form ∷ input_len ∷ p.base ∷ added_len p ∷ p.base ∷ length p.code ∷ table_lo p ∷ length (table_of p) ∷ private_lo p ∷ 64 ∷ (private_lo p + 64) ∷ length p.counted ∷ list_lo p ∷ length p.runs ∷ p.rule ∷ p.edge_rule ∷ [])
     ++ flat_map place_words p.runs
 
 abbrev pub new_headers : List ℕ → Plan → List Phdr

@@ -7,6 +7,7 @@ pub mod Framing
 pub mod Plans
 -- what holds of them, for the proofs of this crate and of the crates above
 pub mod Within
+pub mod Rules
 pub mod Parts
 pub mod Written
 pub mod ReadBack

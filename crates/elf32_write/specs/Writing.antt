@@ -6,7 +6,7 @@ use Rattle.elf32_read.specs.declared.image.Image.{Image}
 use Rattle.elf32_read.specs.declared.image.Phdr.{Phdr}
 use Rattle.elf32_read.specs.Fields.{headers, ident_rest, maps}
 use Rattle.elf32_write.specs.declared.plan.Plan.{Plan}
-use Rattle.elf32_write.specs.File.{added_len, table_lo, table_of, private_lo, list_lo, frame_magic, frame_version, form_number, new_headers, header_words, elf_header}
+use Rattle.elf32_write.specs.File.{added_len, table_lo, table_of, private_lo, list_lo, frame_magic, frame_version, paged_form, new_headers, header_words, elf_header}
 
 -- an image has the flags, bytes 7 to 15 and the program headers that stand in a file
 pub record HasHead (b : List ℕ) (image : Image) : Type 0 where
@@ -26,7 +26,7 @@ is_above base h = maps h && nat_lt base h.vaddr
 -- the words of a frame record that stand before its runs
 abbrev pub record_front : ℕ → Plan → List ℕ
 record_front input_len p =
-    frame_magic ∷ frame_version ∷ form_number p.form ∷ input_len ∷ p.base ∷ added_len p ∷ p.base ∷ length p.code ∷ table_lo p ∷ length (table_of p) ∷ private_lo p ∷ 64 ∷ (private_lo p + 64) ∷ length p.counted ∷ list_lo p ∷ length p.runs ∷ []
+    frame_magic ∷ frame_version ∷ paged_form ∷ input_len ∷ p.base ∷ added_len p ∷ p.base ∷ length p.code ∷ table_lo p ∷ length (table_of p) ∷ private_lo p ∷ 64 ∷ (private_lo p + 64) ∷ length p.counted ∷ list_lo p ∷ length p.runs ∷ p.rule ∷ p.edge_rule ∷ []
 
 -- a plan's block ends at most at 0xB0000000
 abbrev pub EndsLow : Plan → Type 0

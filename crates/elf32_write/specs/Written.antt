@@ -107,7 +107,7 @@ length-place_words : (rs : List RunPlace) → length (flat_map place_words rs) �
 length-place_words [] = refl
 length-place_words (r ∷ rs) = omega (arith, length-place_words rs, length-append (place_words r) (flat_map place_words rs))
 
-length-record : (input_len : ℕ) (p : Plan) → length (words (record_words input_len p)) ≡ 64 + 12 * length p.runs
+length-record : (input_len : ℕ) (p : Plan) → length (words (record_words input_len p)) ≡ 72 + 12 * length p.runs
 unfolding record_words
 length-record input_len p = omega (arith, length-words (record_words input_len p), length-place_words p.runs)
 
@@ -154,7 +154,7 @@ module _ (b : List ℕ) (p : Plan) (ok : HasRoom b p) where
   unfolding head front record_bytes elf
   head_is = refl
 
-  length-inner : length (filled 0x900 front ++ record_bytes) ≡ 0x900 + (64 + 12 * length p.runs)
+  length-inner : length (filled 0x900 front ++ record_bytes) ≡ 0x900 + (72 + 12 * length p.runs)
   unfolding record_bytes
   length-inner =
       omega (arith, length-filled 0x900 front (omega (arith, length-front, ok.few_headers)), length-record (length b) p, length-append (filled 0x900 front) record_bytes)

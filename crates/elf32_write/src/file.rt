@@ -15,10 +15,10 @@ mod head;
 pub mod part;
 
 pub use crate::file::block::added_len;
-use crate::file::block::{added_headers, put_record, table_len};
+use crate::file::block::{added_headers, put_pairs, put_record, table_len};
 use crate::file::format::{HEAD_LEN, RECORD_PLACE};
 use crate::file::head::{put_all_headers, put_elf_header};
-use crate::file::part::{put_padded, put_words, put_zeros, up};
+use crate::file::part::{put_padded, put_zeros, up};
 use crate::plan::Plan;
 use elf32_read::Image;
 use mv_base::NoMemory;
@@ -39,7 +39,7 @@ pub fn write_image(
 ) -> Result<Vec<u8>, NoMemory>
     requires image { HasHead input.now image.now }
     requires headers { length image.now.headers ≤ 61 }
-    requires input { length input.now ≤ 67108864 }
+    requires input { length input.now ≤ 268435456 }
     requires runs { length plan.now.runs ≤ 64 }
     requires block { EndsLow plan.now }
     ensures file { IfOk result (λ file. file.items ≡ file_of input.now plan.now) }
@@ -58,7 +58,7 @@ pub fn write_image(
 
 /// How many bytes the file has.
 fn file_len(input: &[u8], plan: &Plan) -> usize
-    requires input { length input.now ≤ 67108864 }
+    requires input { length input.now ≤ 268435456 }
     requires block { EndsLow plan.now }
     ensures { result ≡ code_place (length input.now)
         + up_of (length plan.now.code) + up_of (length (table_of plan.now)) }
@@ -70,7 +70,7 @@ fn file_len(input: &[u8], plan: &Plan) -> usize
 fn put_head(image: &Image, input: &[u8], plan: &Plan, file: &mut Vec<u8>) -> Result<(), NoMemory>
     requires image { HasHead input.now image.now }
     requires headers { length image.now.headers ≤ 61 }
-    requires input { length input.now ≤ 67108864 }
+    requires input { length input.now ≤ 268435456 }
     requires runs { length plan.now.runs ≤ 64 }
     requires block { EndsLow plan.now }
     requires empty { file.old.items ≡ [] }
@@ -88,7 +88,7 @@ fn put_head(image: &Image, input: &[u8], plan: &Plan, file: &mut Vec<u8>) -> Res
 fn put_front(image: &Image, input: &[u8], plan: &Plan, file: &mut Vec<u8>) -> Result<(), NoMemory>
     requires image { HasHead input.now image.now }
     requires headers { length image.now.headers ≤ 61 }
-    requires input { length input.now ≤ 67108864 }
+    requires input { length input.now ≤ 268435456 }
     requires block { EndsLow plan.now }
     requires empty { file.old.items ≡ [] }
     ensures front { OnOk result (file.new.items ≡ front input.now plan.now) }
@@ -101,14 +101,14 @@ fn put_front(image: &Image, input: &[u8], plan: &Plan, file: &mut Vec<u8>) -> Re
     Ok(())
 }
 
-/// Appends the table with the list of counted sites, and zeros up to a multiple of 4,096.
+/// Appends the table with the list of counters, and zeros up to a multiple of 4,096.
 fn put_table(plan: &Plan, file: &mut Vec<u8>) -> Result<(), NoMemory>
     requires { EndsLow plan.now }
     ensures { OnOk result (file.new.items ≡ file.old.items ++ padded (table_of plan.now)) }
 {
     let len = table_len(plan) as usize;
     file.extend_from_slice(plan.table.as_slice())?;
-    put_words(plan.counted.as_slice(), file)?;
+    put_pairs(plan.counted.as_slice(), file)?;
     put_zeros(up(len) - len, file)?;
     Ok(())
 }

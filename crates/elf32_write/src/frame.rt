@@ -7,7 +7,8 @@ ghost use Rattle.mv_base.specs.Memory.{within};
 ghost use Rattle.mv_base.specs.Table.{run_of};
 ghost use Rattle.elf32_write.specs.Format.{up as up_of};
 ghost use Rattle.elf32_write.specs.File.{code_place as place_of_code};
-ghost use Rattle.elf32_write.specs.Frame.{field as field_of, frame, frame_at, table_at, frame_input, frame_code, frame_table, frame_entry, frame_map, counted_at as counted_address, counter_place as place_of_counter};
+ghost use Rattle.elf32_write.specs.Frame.{field as field_of, frame, frame_at, table_at, frame_input, frame_code, frame_table, frame_entry, frame_map, counted_at as counted_address, counter_place as place_of_counter, kind_at as kind_of};
+ghost use Rattle.elf32_write.specs.Framing.{HasList};
 
 mod fields;
 mod rules;
@@ -18,10 +19,10 @@ mod tests;
 use crate::file::format::FLAT_FORM;
 use crate::frame::fields::{
     ADDED_LEN, ADDED_LO, CODE_LEN, CODE_LO, COUNTER_COUNT, FIRST_COUNTER, FORM, HEAD, INPUT_LEN,
-    LIST, PRIVATE_LO, RUN_COUNT, TABLE_LEN, TABLE_LO, code_place, field, part, run_place,
-    table_place, word,
+    LIST, PRIVATE_LO, RUN_COUNT, TABLE_LEN, TABLE_LO, VERSION, code_place, edge_rule, field, kind,
+    list_len, part, rule, run_place, table_place, word,
 };
-use crate::frame::rules::{has_block, has_places, has_record, has_runs, has_size};
+use crate::frame::rules::{has_kinds, has_numbers, has_record, has_runs};
 use crate::frame::table::Table;
 use mv_base::{Range, RunPlace};
 use std::marker::Model;
@@ -47,10 +48,11 @@ impl<'a> Model for Frame<'a> {
 #[tactic(auto, unfolding(crate::specs::Frame::frame_at, crate::specs::Frame::frame_table))]
 fn table_in(file: &[u8]) -> Table<'_>
     requires room { 0x1000 ≤ length file.now }
-    requires list { field_of file.now 14 ≤ field_of file.now 8 + field_of file.now 9 }
+    requires list { HasList file.now }
     requires table { place_of_code (field_of file.now 3)
         + up_of (field_of file.now 7) + field_of file.now 9 ≤ length file.now }
-    ensures { result ≡ table_at (frame_at file.now) }
+    ensures is { result ≡ table_at (frame_at file.now) }
+    ensures len { length result.bytes ≡ field_of file.now 9 }
 {
     let len = field(file, TABLE_LEN) as usize;
     Table {
@@ -69,16 +71,14 @@ pub fn read_frame(file: &[u8]) -> Option<Frame<'_>>
     if !has_record(file) {
         return None;
     }
-    if !has_places(file) {
+    if !has_numbers(file) {
         return None;
     }
-    if !has_block(file) {
+    let table = table_in(file);
+    if !has_kinds(file, &table) {
         return None;
     }
-    if !has_size(file) {
-        return None;
-    }
-    if !has_runs(file, &table_in(file)) {
+    if !has_runs(file, &table) {
         return None;
     }
     Some(Frame { file })
@@ -86,6 +86,33 @@ pub fn read_frame(file: &[u8]) -> Option<Frame<'_>>
 
 #[tactic(auto, unfolding(crate::specs::Frame::frame_at, crate::specs::Frame::frame_table))]
 impl Frame<'_> {
+    /// The version of the record, 1 or 2.
+    pub fn version(&self) -> u8
+        ensures value { result ≡ self.now.version }
+        ensures low { 1 ≤ result }
+        ensures high { result ≤ 2 }
+    {
+        field(self.file, VERSION) as u8
+    }
+
+    /// The number of the rule that the counters are of, 0 to 6: none, all, calls, returns, branches, system, listed
+    /// addresses. Version 1 has the last.
+    pub fn rule(&self) -> u8
+        ensures value { result ≡ self.now.rule }
+        ensures high { result ≤ 6 }
+    {
+        rule(self.file) as u8
+    }
+
+    /// The number of the rule that the counters of branches are of: none, 0, all, 1, or listed addresses, 6. Version 1
+    /// has none.
+    pub fn edge_rule(&self) -> u8
+        ensures value { result ≡ self.now.edge_rule }
+        ensures high { result ≤ 6 }
+    {
+        edge_rule(self.file) as u8
+    }
+
     /// The number of the table's form.
     pub fn form(&self) -> u8
         ensures value { result ≡ self.now.form }
@@ -127,14 +154,15 @@ impl Frame<'_> {
         )
     }
 
-    /// The table with the list of counted sites.
+    /// The table with the list of counters.
     fn table(&self) -> Table<'_>
-        ensures { result ≡ table_at self.now }
+        ensures is { result ≡ table_at self.now }
+        ensures len { length result.bytes ≡ self.now.table.len }
     {
         table_in(self.file)
     }
 
-    /// The table without the list of counted sites.
+    /// The table without the list of counters.
     pub fn table_bytes(&self) -> &[u8]
         ensures { result.now ≡ take (self.now.list - self.now.table.lo) (frame_table self.now) }
     {
@@ -172,16 +200,26 @@ impl Frame<'_> {
         field(self.file, COUNTER_COUNT)
     }
 
-    /// The address of counted site `index`, counted from 0.
+    /// The address of the site of counter `index`, counted from 0.
     pub fn counted_at(&self, index: u32) -> u32
         requires { index < self.now.counters }
         ensures { result ≡ counted_address self.now index }
     {
         let list = (field(self.file, LIST) - field(self.file, TABLE_LO)) as usize;
-        word(self.table().bytes, list + 4 * index as usize)
+        word(self.table().bytes, list + list_len(self.file, index))
     }
 
-    /// The address of the counter of counted site `index`, counted from 0.
+    /// The kind of counter `index`, counted from 0: 0 counts all executions of the site, 1 those of a branch that jumped,
+    /// and 2 those of a branch that didn't.
+    pub fn kind_at(&self, index: u32) -> u8
+        requires { index < self.now.counters }
+        ensures value { result ≡ kind_of self.now index }
+        ensures high { result ≤ 2 }
+    {
+        kind(self.file, &self.table(), index) as u8
+    }
+
+    /// The address at which counter `index` is, counted from 0.
     pub fn counter_place(&self, index: u32) -> u32
         requires { index < self.now.counters }
         ensures { result ≡ place_of_counter self.now index }

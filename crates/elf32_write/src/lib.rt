@@ -10,4 +10,4 @@ pub mod plan;
 
 pub use file::{added_len, write_image};
 pub use frame::{Frame, read_frame};
-pub use plan::{Form, Plan, RunPlaces};
+pub use plan::{Pairs, Plan, RunPlaces};

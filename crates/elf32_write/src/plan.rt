@@ -2,7 +2,7 @@
 
 ghost use Rattle.std.specs.Prelude.{◌≡◌, ◌↔◌, IsTrue, [], length};
 
-use mv_base::{Addrs, Bytes, RunPlace};
+use mv_base::{Bytes, RunPlace};
 use std::marker::Model;
 
 /// The places of runs, ascending.
@@ -50,24 +50,60 @@ impl RunPlaces {
     }
 }
 
-/// The form of a table from old to new addresses.
-#[derive(Clone, Copy, Debug, PartialEq, Eq)]
-pub enum Form {
-    /// Form 1: for each run one word an address.
-    Flat,
-    /// Form 2: for each run a directory of pages, of 1,024 words each.
-    Paged,
+/// The counters of an output: the address of each one's site, and its kind, ascending by address and then by kind.
+#[derive(Drop)]
+pub struct Pairs {
+    items: Vec<(u32, u8)>,
 }
 
-/// The added block: the form of its table, where it starts, its code, its table without the list of counted sites,
-/// that list, the runs with their directories, and where the output starts.
+impl Model for Pairs {
+    ghost use Rattle.std.specs.Prelude.{ℕ, List};
+
+    ghost Value = { List (ℕ × ℕ) };
+
+    ghost view = { λ p. p.items.items };
+}
+
+impl Pairs {
+    /// The pairs of a vector.
+    pub fn new(items: Vec<(u32, u8)>) -> Pairs
+        ensures { result ≡ items.items }
+    {
+        Pairs { items }
+    }
+
+    /// The pairs as a slice.
+    pub fn as_slice(&self) -> &[(u32, u8)]
+        ensures { result.now ≡ self.now }
+    {
+        self.items.as_slice()
+    }
+
+    /// How many pairs there are.
+    pub fn len(&self) -> usize
+        ensures { result ≡ length self.now }
+    {
+        self.items.len()
+    }
+
+    /// Whether there is no pair.
+    pub fn is_empty(&self) -> bool
+        ensures { IsTrue result ↔ (self.now ≡ []) }
+    {
+        self.items.is_empty()
+    }
+}
+
+/// The added block: where it starts, its code, its table of form 2 without the list of counters, that list, the runs with
+/// their directories, where the output starts, and the numbers of the rules that its counters are of.
 #[derive(Drop)]
 pub struct Plan {
-    pub form: Form,
     pub base: u32,
     pub code: Bytes,
     pub table: Bytes,
-    pub counted: Addrs,
+    pub counted: Pairs,
     pub runs: RunPlaces,
     pub entry: u32,
+    pub rule: u8,
+    pub edge_rule: u8,
 }

@@ -3,15 +3,15 @@
 ghost use Rattle.std.specs.Prelude.{◌≡◌, ◌+◌, ◌*◌, ◌≤◌, ◌++◌, length, OnOk};
 ghost use Rattle.std.specs.List.{flat_map};
 ghost use Rattle.mv_base.specs.Bytes.{words};
-ghost use Rattle.elf32_write.specs.File.{added_header as header_of_block, added_headers as headers_of_block, added_len as len_of_block, table_of, table_lo as lo_of_table, private_lo as lo_of_private, list_lo as lo_of_list, code_place as place_of_code, place_words, form_number as number_of_form, record_words as words_of_record};
+ghost use Rattle.elf32_write.specs.File.{added_header as header_of_block, added_headers as headers_of_block, added_len as len_of_block, table_of, table_lo as lo_of_table, private_lo as lo_of_private, list_lo as lo_of_list, code_place as place_of_code, pair_words, place_words, record_words as words_of_record};
 ghost use Rattle.elf32_write.specs.Writing.{EndsLow, record_front};
 
 use crate::file::format::{
-    FLAT_FORM, FRAME_MAGIC, FRAME_VERSION, HEAD_LEN, PAGED_FORM, PRIVATE_LEN,
+    FRAME_MAGIC, FRAME_VERSION, HEAD_LEN, PAGED_FORM, PRIVATE_LEN,
 };
 use crate::file::head::{PT_LOAD, SEGMENT_ALIGN};
 use crate::file::part::{put_words, up};
-use crate::plan::{Form, Plan};
+use crate::plan::Plan;
 use elf32_read::Phdr;
 use mv_base::{NoMemory, RunPlace};
 
@@ -22,13 +22,13 @@ const READ: u32 = 4;
 
 const READ_WRITE: u32 = 6;
 
-/// How many bytes the table has together with the list of counted sites.
+/// How many bytes the table has together with the list of counters.
 #[tactic(auto, using(crate::proofs::HeadBytes::length_table))]
 pub fn table_len(plan: &Plan) -> u32
     requires { EndsLow plan.now }
     ensures { result ≡ length (table_of plan.now) }
 {
-    (plan.table.len() + 4 * plan.counted.len()) as u32
+    (plan.table.len() + 8 * plan.counted.len()) as u32
 }
 
 /// The address of the table.
@@ -69,7 +69,7 @@ pub fn added_len(plan: &Plan) -> u32
 
 /// Where in the file the code stands, behind an input of this length.
 fn code_place(input_len: u32) -> u32
-    requires { input_len ≤ 67108864 }
+    requires { input_len ≤ 268435456 }
     ensures { result ≡ place_of_code input_len }
 {
     HEAD_LEN + up(input_len as usize) as u32
@@ -94,7 +94,7 @@ fn added_header(offset: u32, lo: u32, filesz: u32, memsz: u32, flags: u32) -> Ph
 /// The headers that are added behind an input of this length: for the code, the table and the private area.
 #[tactic(auto, using(crate::proofs::HeadBytes::length_table))]
 pub fn added_headers(input_len: u32, plan: &Plan) -> [Phdr; 3]
-    requires input { input_len ≤ 67108864 }
+    requires input { input_len ≤ 268435456 }
     requires block { EndsLow plan.now }
     ensures { result ≡ headers_of_block input_len plan.now }
 {
@@ -116,24 +116,13 @@ pub fn added_headers(input_len: u32, plan: &Plan) -> [Phdr; 3]
     ]
 }
 
-/// The number of a form of a table in the record.
-fn form_number(form: Form) -> u32
-    ensures { result ≡ number_of_form form }
-{
-    match form {
-        Form::Flat => FLAT_FORM,
-        Form::Paged => PAGED_FORM,
-    }
-}
-
 /// The words of the frame record before its runs, behind an input of this length.
 #[tactic(auto, using(crate::proofs::HeadBytes::length_table))]
-fn record_words(input_len: u32, plan: &Plan) -> [u32; 16]
+fn record_words(input_len: u32, plan: &Plan) -> [u32; 18]
     requires block { EndsLow plan.now }
     requires runs { length plan.now.runs ≤ 64 }
     ensures { result ≡ record_front input_len plan.now }
 {
-    let form = form_number(plan.form);
     let private = private_lo(plan);
     let added = added_len(plan);
     let table = table_lo(plan);
@@ -142,7 +131,7 @@ fn record_words(input_len: u32, plan: &Plan) -> [u32; 16]
     [
         FRAME_MAGIC,
         FRAME_VERSION,
-        form,
+        PAGED_FORM,
         input_len,
         plan.base,
         added,
@@ -156,7 +145,19 @@ fn record_words(input_len: u32, plan: &Plan) -> [u32; 16]
         plan.counted.len() as u32,
         list,
         plan.runs.len() as u32,
+        u32::from(plan.rule),
+        u32::from(plan.edge_rule),
     ]
+}
+
+/// Appends the list of counters, two words each.
+pub fn put_pairs(pairs: &[(u32, u8)], to: &mut Vec<u8>) -> Result<(), NoMemory>
+    ensures { OnOk result (to.new.items ≡ to.old.items ++ words (flat_map pair_words pairs.now)) }
+{
+    for pair in pairs {
+        put_words(&[pair.0, u32::from(pair.1)], to)?;
+    }
+    Ok(())
 }
 
 /// Appends the places of runs, three words each.

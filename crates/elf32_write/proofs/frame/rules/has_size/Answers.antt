@@ -1,7 +1,7 @@
-use Rattle.std.proofs.Common.{◌≡◌, ◌+◌, sym, ap, leb, arith}
+use Rattle.std.proofs.Common.{◌≡◌, ◌+◌, sym, ap, ◌∙◌, leb, arith}
 use Rattle.mv_base.specs.declared.range.RunPlace.{RunPlace}
-use Rattle.elf32_write.specs.Frame.{run_place_at}
-use Rattle.elf32_write.proofs.RecordRuns.{len_first, len_next, len_end}
+use Rattle.elf32_write.specs.Frame.{frame_at, run_place_at}
+use Rattle.elf32_write.proofs.RecordRuns.{len_of, len_first, len_next, len_end}
 use Rattle.elf32_write.proofs.frame.rules.has_size.Goals as goal
 
 pub loop-index-init : goal.loop-index-init
@@ -18,4 +18,6 @@ loop-index-preserved c =
     }
 
 pub returns : goal.returns
-returns c = ap (λ n. leb n 4194304) (sym (len_end c.args.file.now _ c.loop-index.size c.loop-index.index c.field-index-end.result (omega arith) c.loop-index.invariant.same))
+returns c =
+    ap (λ n. leb n c.most_code.result) (sym (len_end c.args.file.now _ c.loop-index.size c.loop-index.index c.field-index-end.result (omega arith) c.loop-index.invariant.same))
+    ∙ ap (leb (len_of (frame_at c.args.file.now).runs)) c.most_code.ensures
