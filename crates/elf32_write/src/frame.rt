@@ -124,7 +124,8 @@ impl Frame<'_> {
 
     /// The input, whole.
     pub fn input(&self) -> &[u8]
-        ensures { result.now ≡ frame_input self.now }
+        ensures is { result.now ≡ frame_input self.now }
+        ensures short { length result.now ≤ 268435456 }
     {
         part(self.file, HEAD, field(self.file, INPUT_LEN) as usize)
     }
