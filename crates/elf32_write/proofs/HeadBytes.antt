@@ -111,13 +111,6 @@ header_parts base added hs k old t1 t2 t3 at e1 e2 e3 =
     ∙ (append_assoc old (spelled header_words front ++ spelled header_words added) (spelled header_words back) ∙ ap (λ (l : List ℕ). old ++ l) (sym bytes)))))
 
 -- how long the parts are
-length-pairs : (qs : List (ℕ × ℕ)) → length (flat_map pair_words qs) ≡ 2 * length qs
-length-pairs [] = refl
-length-pairs (q ∷ qs) = omega (arith, length-pairs qs, length-append (pair_words q) (flat_map pair_words qs))
-
-pub length_table : (p : Plan) → length (table_of p) ≡ length p.table + 8 * length p.counted
-length_table p = omega (arith, length-append p.table (words (flat_map pair_words p.counted)), length-words (flat_map pair_words p.counted), length-pairs p.counted)
-
 -- the frame record, part by part
 pub record_parts : (input_len : ℕ) (p : Plan) (old t1 t2 : List ℕ) → t1 ≡ old ++ words (record_front input_len p) → t2 ≡ t1 ++ words (flat_map place_words p.runs)
     → t2 ≡ old ++ words (record_words input_len p)

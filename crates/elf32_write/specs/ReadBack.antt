@@ -17,7 +17,7 @@ use Rattle.elf32_write.specs.Writing.{record_front, EndsLow}
 use Rattle.elf32_write.specs.Plans.{frame_of, plan_table, IsPair, KeepsRules, ReadsBack}
 use Rattle.elf32_write.specs.Rules.{edge_low}
 use Rattle.elf32_write.specs.Parts.{Stands, stands_first, stands_second, stands_whole, word_in}
-use Rattle.elf32_write.specs.Written.{HasRoom, IsStored, stored}
+use Rattle.elf32_write.specs.Written.{HasRoom, IsStored, stored, table_length}
 
 -- the part that stands at a place is what is taken from there
 pub taken : (x part : List ℕ) (p n : ℕ) → length part ≡ n → Stands x p part → take n (drop p x) ≡ part
@@ -84,10 +84,6 @@ pairs_read x (q ∷ qs) p j s are =
       kinds = and_from _ _ (le-leb _ 2 (omega (arith, one.kind, are.0.1))) rest.kinds;
     }
 
-length-pairs : (qs : List (ℕ × ℕ)) → length (flat_map pair_words qs) ≡ 2 * length qs
-length-pairs [] = refl
-length-pairs (q ∷ qs) = omega (arith, length-pairs qs, length-append (pair_words q) (flat_map pair_words qs))
-
 -- the directories of runs that keep the rules lie below the list
 dir_by : (b : Bool) (t : TableAt) (r : RunPlace) → cond b (is_in_table t r.dir (4 * r.len)) (is_in_table t r.dir (4 * group_count r.len) && has_pages t r) ≡ true → r.dir ≤ t.list
 dir_by true t r h =
@@ -140,7 +136,7 @@ module _ (b : List ℕ) (p : Plan) (room : HasRoom b p) (small : length b ≤ 26
   below = omega (arith, low)
 
   table_len_is : length (table_of p) ≡ length p.table + 8 * length p.counted
-  table_len_is = omega (arith, length-append p.table (words (flat_map pair_words p.counted)), length-words (flat_map pair_words p.counted), length-pairs p.counted)
+  table_len_is = table_length p
 
   rules : (p.rule ≤ 6) × (p.edge_rule ≤ 6)
   rules = let h = and_parts _ _ keeps.rules in (leb-true _ _ h.0, edge_low p.edge_rule h.1)

@@ -13,7 +13,7 @@ use Rattle.elf32_read.specs.Fields.{header_at, headers, header_offset, header_co
 use Rattle.elf32_read.specs.Faults.{head_fault}
 use Rattle.elf32_write.specs.declared.plan.Plan.{Plan}
 use Rattle.elf32_write.specs.Format.{filled, up}
-use Rattle.elf32_write.specs.File.{padded, table_of, code_place, new_headers, header_words, elf_header, record_words, place_words, head, file_of}
+use Rattle.elf32_write.specs.File.{padded, table_of, code_place, new_headers, header_words, elf_header, record_words, pair_words, place_words, head, file_of}
 use Rattle.mv_base.specs.Words.{length-words, words-append}
 use Rattle.elf32_write.specs.Parts.{Stands, stands_whole, stands_left, stands_right, stands_in, stands_first, stands_second, IsHeader, headers_in, stands_filled, length-filled}
 
@@ -106,6 +106,15 @@ length-words_of_headers (h ∷ hs) =
 length-place_words : (rs : List RunPlace) → length (flat_map place_words rs) ≡ 3 * length rs
 length-place_words [] = refl
 length-place_words (r ∷ rs) = omega (arith, length-place_words rs, length-append (place_words r) (flat_map place_words rs))
+
+length-pair_words : (qs : List (ℕ × ℕ)) → length (flat_map pair_words qs) ≡ 2 * length qs
+length-pair_words [] = refl
+length-pair_words (q ∷ qs) = omega (arith, length-pair_words qs, length-append (pair_words q) (flat_map pair_words qs))
+
+-- eight bytes of the list for each counter
+pub table_length : (p : Plan) → length (table_of p) ≡ length p.table + 8 * length p.counted
+table_length p =
+    omega (arith, length-append p.table (words (flat_map pair_words p.counted)), length-words (flat_map pair_words p.counted), length-pair_words p.counted)
 
 length-record : (input_len : ℕ) (p : Plan) → length (words (record_words input_len p)) ≡ 72 + 12 * length p.runs
 unfolding record_words

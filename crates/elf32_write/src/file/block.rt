@@ -23,7 +23,7 @@ const READ: u32 = 4;
 const READ_WRITE: u32 = 6;
 
 /// How many bytes the table has together with the list of counters.
-#[tactic(auto, using(crate::proofs::HeadBytes::length_table))]
+#[tactic(auto, using(crate::specs::Written::table_length))]
 pub fn table_len(plan: &Plan) -> u32
     requires { EndsLow plan.now }
     ensures { result ≡ length (table_of plan.now) }
@@ -32,7 +32,7 @@ pub fn table_len(plan: &Plan) -> u32
 }
 
 /// The address of the table.
-#[tactic(auto, using(crate::proofs::HeadBytes::length_table))]
+#[tactic(auto, using(crate::specs::Written::table_length))]
 fn table_lo(plan: &Plan) -> u32
     requires { EndsLow plan.now }
     ensures { result ≡ lo_of_table plan.now }
@@ -41,7 +41,7 @@ fn table_lo(plan: &Plan) -> u32
 }
 
 /// The address of the private area.
-#[tactic(auto, using(crate::proofs::HeadBytes::length_table))]
+#[tactic(auto, using(crate::specs::Written::table_length))]
 fn private_lo(plan: &Plan) -> u32
     requires { EndsLow plan.now }
     ensures { result ≡ lo_of_private plan.now }
@@ -50,7 +50,7 @@ fn private_lo(plan: &Plan) -> u32
 }
 
 /// How many bytes the private area has together with its counters.
-#[tactic(auto, using(crate::proofs::HeadBytes::length_table))]
+#[tactic(auto, using(crate::specs::Written::table_length))]
 fn private_len(plan: &Plan) -> u32
     requires { EndsLow plan.now }
     ensures { result ≡ 64 + 8 * length plan.now.counted }
@@ -59,7 +59,7 @@ fn private_len(plan: &Plan) -> u32
 }
 
 /// How many bytes the whole block of a plan has, a multiple of 4,096.
-#[tactic(auto, using(crate::proofs::HeadBytes::length_table))]
+#[tactic(auto, using(crate::specs::Written::table_length))]
 pub fn added_len(plan: &Plan) -> u32
     requires { EndsLow plan.now }
     ensures { result ≡ len_of_block plan.now }
@@ -92,7 +92,7 @@ fn added_header(offset: u32, lo: u32, filesz: u32, memsz: u32, flags: u32) -> Ph
 }
 
 /// The headers that are added behind an input of this length: for the code, the table and the private area.
-#[tactic(auto, using(crate::proofs::HeadBytes::length_table))]
+#[tactic(auto, using(crate::specs::Written::table_length))]
 pub fn added_headers(input_len: u32, plan: &Plan) -> [Phdr; 3]
     requires input { input_len ≤ 268435456 }
     requires block { EndsLow plan.now }
@@ -117,7 +117,7 @@ pub fn added_headers(input_len: u32, plan: &Plan) -> [Phdr; 3]
 }
 
 /// The words of the frame record before its runs, behind an input of this length.
-#[tactic(auto, using(crate::proofs::HeadBytes::length_table))]
+#[tactic(auto, using(crate::specs::Written::table_length))]
 fn record_words(input_len: u32, plan: &Plan) -> [u32; 18]
     requires block { EndsLow plan.now }
     requires runs { length plan.now.runs ≤ 64 }

@@ -47,7 +47,7 @@ fn plan(alloc: Global, page: u8, counted: Vec<(u32, u8)>) -> Result<Plan, NoMemo
 }
 
 /// Whether the block of a plan ends low enough.
-#[tactic(auto, using(crate::proofs::HeadBytes::length_table))]
+#[tactic(auto, using(crate::specs::Written::table_length))]
 fn ends_low(plan: &Plan) -> bool
     ensures { IsTrue result → EndsLow plan.now }
 {
