@@ -70,11 +70,11 @@ pub record IsPaged (bytes : List ℕ) (lo : ℕ) (r : RunPlace) : Type 0 where
   pub page_low : (g : ℕ) → g < group_count r.len → lo ≤ page_named bytes lo r.dir g
   pub page_high : (g : ℕ) → g < group_count r.len → page_named bytes lo r.dir g + 4096 ≤ lo + length bytes
 
--- runs of which a table can be made: at most 64, which ascend with a gap between any two and have at most 4 MiB together
+-- runs of which a table can be made: at most 64, which ascend with a gap between any two and have at most 16 MiB together
 pub record AreRuns (rs : List Run) : Type 0 where
   pub few : length rs ≤ 64
   pub apart : AreApart 0 rs
-  pub small : bytes_len rs ≤ 4194304
+  pub small : bytes_len rs ≤ 16777216
 
 -- what a table is made of: runs, pairs and its address
 pub record Made : Type 0 where

@@ -118,7 +118,7 @@ fn page_count(sites: &[u32], group: Group) -> u32
 fn run_len(run: &Run, sites: &[u32]) -> u32
     requires ascend { Ascend 0 sites.now }
     requires ends { run.now.lo + length run.now.bytes ≤ 0xFFFFF000 }
-    requires small { length run.now.bytes ≤ 4194304 }
+    requires small { length run.now.bytes ≤ 16777216 }
     ensures { result ≡ 4 * length (groups_in run.now)
         + 4096 * count_by (has_site_of sites.now) (groups_in run.now) }
 {

@@ -144,7 +144,7 @@ size_done rs sites i all len le is =
     let none = groups_left rs i le in
     omega (arith, is, ap (λ (l : List Group). length l) none, ap (count_by (has_site sites)) none)
 
-pub size_bound : (rs : List Run) (sites : List ℕ) → length rs ≤ 64 → bytes_len rs ≤ 4194304 → table_size rs sites ≤ 2 ^ 25
+pub size_bound : (rs : List Run) (sites : List ℕ) → length rs ≤ 64 → bytes_len rs ≤ 16777216 → table_size rs sites ≤ 2 ^ 27
 unfolding table_size
 size_bound rs sites few small =
     omega (arith, length-groups rs, count_by-le-length (has_site sites) (groups rs), few, small)
