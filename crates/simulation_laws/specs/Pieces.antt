@@ -1,5 +1,5 @@
 -- The code that stands for a site. This project's own.
-use Rattle.std.specs.Prelude.{ℕ, ◌+◌, List, [], ◌∷◌, ◌++◌, length, Option, None, Some, ◌==◌, if◌then◌else◌}
+use Rattle.std.specs.Prelude.{ℕ, ◌+◌, List, [], ◌∷◌, ◌++◌, length, Option, None, Some, ◌==◌, ◌&&◌, if◌then◌else◌}
 use Rattle.mv_base.specs.Memory.{exec_bytes}
 use Rattle.x86_insn.specs.declared.insn.Flow.{Flow}
 use Rattle.x86_insn.specs.declared.insn.Flow.TheVariants.{Plain, Jump, Branch, Count, Call, JumpVia, CallVia, Return, Trap, System}
@@ -39,11 +39,11 @@ with_join move here s p = p ++ join move (here + length p) s
 
 -- ---- counters
 
--- where the counter of an address is, if the address is listed: the counters stand one behind the other, eight bytes each,
--- in the order of the list
-unfoldable pub counter_in : ℕ → List ℕ → ℕ → Option ℕ
+-- where the counter of all executions at an address is, if the list has it: the counters stand one behind the other, eight
+-- bytes each, in the order of the list
+unfoldable pub counter_in : ℕ → List (ℕ × ℕ) → ℕ → Option ℕ
 counter_in first [] a = None
-counter_in first (x ∷ xs) a = if x == a then Some first else counter_in (first + 8) xs a
+counter_in first (q ∷ qs) a = if q.0 == a && q.1 == 0 then Some first else counter_in (first + 8) qs a
 
 -- the counter in front of a piece, where the site has one
 abbrev pub counter_code : Anchors → Option ℕ → List ℕ

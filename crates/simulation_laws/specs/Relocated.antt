@@ -1,16 +1,15 @@
 -- What an output is to its input before anything runs: how it loads, and what stands where. This project's own.
-use Rattle.std.specs.Prelude.{◌≡◌, ℕ, ◌+◌, ◌^◌, ◌<◌, ◌≤◌, ◌⊎◌, true, false, List, length, map, Option, Some, None, slice_index}
-use Rattle.std.specs.List.{AllByRecursion, range_with_len}
+use Rattle.std.specs.Prelude.{◌≡◌, ℕ, ◌+◌, ◌^◌, ◌<◌, ◌≤◌, ◌⊎◌, true, false, List, length, Option, Some, None, slice_index}
+use Rattle.std.specs.List.{AllByRecursion}
 use Rattle.std.specs.Option.{option_map}
 use Rattle.mv_base.specs.Bytes.{AreBytes}
 use Rattle.mv_base.specs.Memory.{Cell, byte_of, exec_byte, is_writable, is_executable}
 use Rattle.elf32_read.specs.Fields.{entry_at}
 use Rattle.elf32_read.specs.Faults.{load_refusal}
 use Rattle.elf32_read.specs.Load.{load}
-use Rattle.elf32_write.specs.Frame.{Frame, frame, frame_table, frame_code, frame_map, is_added, is_private, counted_at}
+use Rattle.elf32_write.specs.Frame.{Frame, frame, frame_table, frame_code, frame_map, is_added, is_private, counted_at, kind_at, counted, AscendPairs}
 use Rattle.lookup_stub.specs.Stub.{stub}
 use Rattle.lookup_stub.specs.Finding.{IsPlaced}
-use Rattle.counter_hooks.specs.Rules.{Ascend}
 use Rattle.superset.specs.declared.site.Site.{Site}
 use Rattle.simulation_laws.specs.declared.anchors.Anchors.{Anchors}
 use Rattle.simulation_laws.specs.Code.{site_at, code_in}
@@ -36,10 +35,7 @@ pub record StandAt (x : List ℕ) (f : Frame) (at : ℕ) (bytes : List ℕ) : Ty
 abbrev pub anchors_of : Frame → Anchors
 anchors_of f = record { stub = f.code.lo; private = f.private }
 
--- the addresses that a frame counts, in its list's order, and where the counter of an address is
-abbrev pub counted : Frame → List ℕ
-counted f = map (counted_at f) (range_with_len 0 f.counters)
-
+-- where the counter of all executions at an address is
 abbrev pub counter_of : Frame → ℕ → Option ℕ
 counter_of f a = counter_in f.first_counter (counted f) a
 
@@ -59,8 +55,14 @@ abbrev pub LeadsOn : List ℕ → Frame → ℕ → Site → Type 0
 LeadsOn x f here s =
     falls (flow_of s.insn) ≡ true → (frame_map f (successor s) ≡ here) ⊎ StandAt x f here (jump_bytes here (frame_map f (successor s)))
 
--- where the frame maps a site its counter stands, if it has one, then its piece, and behind it what leads on
+-- an address is counted by no counter but one of all its executions
+abbrev pub CountsWhole : Frame → ℕ → Type 0
+CountsWhole f a = (k : ℕ) → k < f.counters → counted_at f k ≡ a → kind_at f k ≡ 0
+
+-- the site has no counter of another kind, and where the frame maps it its counter stands, if it has one, then its piece,
+-- and behind it what leads on
 pub record PieceAt (b x : List ℕ) (f : Frame) (s : Site) : Type 0 where
+  pub whole : CountsWhole f s.at
   pub counts : StandAt x f (frame_map f s.at) (counter_there f s)
   pub stands : StandAt x f (piece_place f s) (piece_there b f s)
   pub leads : LeadsOn x f (piece_place f s + length (piece_there b f s)) s
@@ -98,11 +100,11 @@ pub record IsOutput (b x : List ℕ) (f : Frame) : Type 0 where
   -- addresses are mapped to addresses
   pub mapped : (a : ℕ) → a < 2 ^ 32 → frame_map f a < 2 ^ 32
 
--- and it starts where the input's entry is mapped, counts each address once, has each site's piece where the site is mapped,
--- and maps any other address to itself
+-- and it starts where the input's entry is mapped, counts each address once in a kind, has each site's piece where the site
+-- is mapped, and maps any other address to itself
 pub record IsRelocated (b x : List ℕ) (f : Frame) : Type 0 where
   pub output : IsOutput b x f
   pub entry : entry_at x ≡ frame_map f (entry_at b)
-  pub ascends : Ascend (counted f)
+  pub ascends : AscendPairs (counted f)
   pub pieces : (a : ℕ) (s : Site) → site_at (code_in b) a ≡ Some s → PieceAt b x f s
   pub others : (a : ℕ) → site_at (code_in b) a ≡ None → frame_map f a ≡ a

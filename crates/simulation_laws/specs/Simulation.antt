@@ -1,20 +1,24 @@
 -- What it means that the run of an output follows the run of its input. This project's own.
-use Rattle.std.specs.Prelude.{◌≡◌, ℕ, zero, suc, ◌+◌, ◌*◌, ◌%◌, ◌^◌, ◌<◌, ◌≤◌, Bool, true, false, List, [], ◌∷◌, length, Option, Some, None, is_some, ◌==◌, if◌then◌else◌}
+use Rattle.std.specs.Prelude.{◌≡◌, ℕ, zero, suc, ◌+◌, ◌*◌, ◌%◌, ◌^◌, ◌<◌, ◌≤◌, Bool, true, false, List, [], ◌∷◌, length, Option, Some, None, is_some, ◌==◌, ◌&&◌, ◌||◌, if◌then◌else◌}
 use Rattle.std.specs.List.{AllByRecursion}
 use Rattle.mv_base.specs.Bytes.{number}
 use Rattle.mv_base.specs.Memory.{Memory, IsMemory, is_mapped, is_executable, bytes_at, joined}
 use Rattle.mv_base.specs.Effects.{Effect, Answer, IsAnswer, touches}
 use Rattle.x86_insn.specs.State.{IsCore, State}
 use Rattle.x86_insn.specs.declared.registers.Core.{Core}
+use Rattle.x86_insn.specs.declared.insn.Insn.{Insn}
+use Rattle.x86_insn.specs.declared.insn.Insn.TheVariants as insn
+use Rattle.x86_insn.specs.Conditions.{holds}
+use Rattle.x86_insn.specs.Transfers.{loop_core, loop_jumps}
 use Rattle.x86_insn.specs.TakenUp.{taken_up}
-use Rattle.x86_insn.specs.Step.{step}
+use Rattle.x86_insn.specs.Step.{Fetched, Found, fetch, step}
 use Rattle.x86_insn.specs.Run.{state_after}
 use Rattle.step_laws.specs.Keeping.{marks}
 use Rattle.step_laws.specs.Beside.{shown, exec_cell, IsClearOutcome}
 use Rattle.elf32_read.specs.Fields.{entry_at}
 use Rattle.elf32_read.specs.Faults.{load_refusal}
 use Rattle.elf32_read.specs.Load.{load}
-use Rattle.elf32_write.specs.Frame.{Frame, frame, frame_map, is_added, is_private, counted_at, counter_place}
+use Rattle.elf32_write.specs.Frame.{Frame, frame, frame_map, is_added, is_private, counted_at, kind_at, counter_place}
 
 -- ---- starts and runs
 
@@ -56,8 +60,8 @@ pub record IsClear (b : List ℕ) (f : Frame) (s : Start) (answers : List Answer
 
 -- ---- agreeing states
 
--- a state o of the input b and a state t of the output x agree, where c has a number for each counted site
-pub record Agree (b x : List ℕ) (f : Frame) (o t : State) (c : ℕ → ℕ) : Type 0 where
+-- a state o of the input b and a state t of the output x agree, where c has a number for each counted address and kind
+pub record Agree (b x : List ℕ) (f : Frame) (o t : State) (c : ℕ → ℕ → ℕ) : Type 0 where
   pub core : t.core ≡ o.core
   pub descs : t.descs ≡ o.descs
   pub calls : t.calls ≡ o.calls
@@ -72,18 +76,46 @@ pub record Agree (b x : List ℕ) (f : Frame) (o t : State) (c : ℕ → ℕ) : 
   -- in the added range: the output's file, but for the bytes of the private area and of the counters
   pub block : (a : ℕ) → is_added f a ≡ true → marks (t.memory a) ≡ marks (load x a)
   pub kept : (a : ℕ) → is_added f a ≡ true → is_private f a ≡ false → t.memory a ≡ load x a
-  pub counts : (k : ℕ) → k < f.counters → number (bytes_at t.memory (counter_place f k) 8) ≡ c (counted_at f k) % 2 ^ 64
+  pub counts : (k : ℕ) → k < f.counters → number (bytes_at t.memory (counter_place f k) 8) ≡ c (counted_at f k) (kind_at f k) % 2 ^ 64
 
 -- ---- following
 
-abbrev pub stands_at : ℕ → Option State → Bool
-stands_at a None = false
-stands_at a (Some s) = s.eip == a
+-- whether an instruction jumps, where it is a branch or a loop
+abbrev pub insn_jumps : Insn → Core → Option Bool
+insn_jumps (insn.Branch cond rel) c = Some (holds cond c.flags)
+insn_jumps (insn.Loop kind rel) c = Some (loop_jumps kind (loop_core kind c))
+insn_jumps _ c = None
 
--- how often the first i steps of a run began at an address
-unfoldable pub executions : (ℕ → Option State) → ℕ → ℕ → ℕ
-executions run zero a = 0
-executions run (suc i) a = executions run i a + (if stands_at a (run i) then 1 else 0)
+abbrev pub fetched_jumps : Fetched → Core → Option Bool
+fetched_jumps (Found i len) c = insn_jumps i c
+fetched_jumps _ c = None
+
+-- whether the instruction that a state stands at does
+abbrev pub jumps : State → Option Bool
+jumps s = fetched_jumps (fetch s.memory s.eip) s.core
+
+-- whether a counter of a kind counts what a state begins: kind 1 a branch or loop that jumps, kind 2 another branch or
+-- loop, and kind 0 each instruction
+abbrev pub is_of_edge : ℕ → Option Bool → Bool
+is_of_edge kind None = false
+is_of_edge kind (Some true) = kind == 1
+is_of_edge kind (Some false) = kind == 2
+
+abbrev pub is_of_kind : ℕ → Option Bool → Bool
+is_of_kind kind jumped = kind == 0 || is_of_edge kind jumped
+
+-- whether the counter of an address and kind has one more for the step from a state
+abbrev pub adds : State → ℕ → ℕ → Bool
+adds s a kind = a == s.eip && is_of_kind kind (jumps s)
+
+abbrev pub adds_there : Option State → ℕ → ℕ → Bool
+adds_there None a kind = false
+adds_there (Some s) a kind = adds s a kind
+
+-- how many of the first i steps of a run began at an address and are of a kind
+unfoldable pub executions : (ℕ → Option State) → ℕ → ℕ → ℕ → ℕ
+executions run zero a kind = 0
+executions run (suc i) a kind = executions run i a kind + (if adds_there (run i) a kind then 1 else 0)
 
 -- two states are there, and stand in a relation
 abbrev pub BothAre : (State → State → Type 0) → Option State → Option State → Type 0

@@ -1,10 +1,11 @@
 -- What stands in the code of a frame. This project's own.
 use Rattle.std.specs.Prelude.{◌≡◌, ℕ, ◌+◌, ◌-◌, ◌≤◌, Bool, ◌&&◌, ◌||◌, List, [], ◌∷◌, length, drop, Option, nat_le, nat_lt, ◌^◌, ◌==◌, not}
+use Rattle.std.specs.List.{list_all}
 use Rattle.x86_insn.specs.Flow.{flow_of, falls}
 use Rattle.step_laws.specs.Jumps.{jump_bytes}
 use Rattle.elf32_read.specs.declared.run.Run.{Run}
 use Rattle.elf32_read.specs.Runs.{code_of}
-use Rattle.elf32_write.specs.Frame.{Frame, frame_code, frame_map}
+use Rattle.elf32_write.specs.Frame.{Frame, frame_code, frame_map, counted}
 use Rattle.superset.specs.declared.site.Site.{Site}
 use Rattle.superset.specs.Targets.{successor}
 use Rattle.simulation_laws.specs.Code.{code_in}
@@ -29,10 +30,16 @@ has_way f here s =
 abbrev pub piece_over : Frame → (ℕ → Option ℕ) → Site → List ℕ
 piece_over f code s = piece (anchors_of f) (frame_map f) code (piece_place f s) s
 
--- where the frame maps the site its counter stands, if it has one, then its piece, and leads on
+-- an address is counted by no counter but one of all its executions
+abbrev pub counts_whole : Frame → ℕ → Bool
+counts_whole f a = list_all (λ q. not (q.0 == a) || q.1 == 0) (counted f)
+
+-- the site has no counter of another kind, and where the frame maps it its counter stands, if it has one, then its piece,
+-- and leads on
 abbrev pub has_piece : Frame → (ℕ → Option ℕ) → Site → Bool
 has_piece f code s =
-    has_bytes f (frame_map f s.at) (counter_there f s)
+    counts_whole f s.at
+    && has_bytes f (frame_map f s.at) (counter_there f s)
     && has_bytes f (piece_place f s) (piece_over f code s)
     && has_way f (piece_place f s + length (piece_over f code s)) s
 

@@ -1,6 +1,6 @@
 -- What holds between an input's state and its output's along both runs, and what a step of the input comes to there. This
 -- project's own.
-use Rattle.std.specs.Prelude.{◌≡◌, ℕ, ◌+◌, ◌%◌, ◌^◌, ◌<◌, ◌≤◌, true, false, List, ◌==◌, if◌then◌else◌}
+use Rattle.std.specs.Prelude.{◌≡◌, ℕ, ◌+◌, ◌%◌, ◌^◌, ◌<◌, ◌≤◌, Bool, true, false, List, if◌then◌else◌}
 use Rattle.mv_base.specs.Bytes.{number}
 use Rattle.mv_base.specs.Memory.{Memory, IsMemory, is_executable, within, bytes_at}
 use Rattle.x86_insn.specs.State.{State, Outcome, Next, Stopped}
@@ -10,9 +10,10 @@ use Rattle.step_laws.specs.Keeping.{marks}
 use Rattle.step_laws.specs.Beside.{SameCode, StatesBeside}
 use Rattle.step_laws.specs.Meeting.{Area, private_len, Reaches, Breaks, Moves}
 use Rattle.elf32_read.specs.Load.{load}
-use Rattle.elf32_write.specs.Frame.{Frame, frame_map, is_added, is_private, counted_at, counter_place}
+use Rattle.elf32_write.specs.Frame.{Frame, frame_map, is_added, is_private, counted_at, kind_at, counter_place}
 use Rattle.superset.specs.declared.site.Site.{Site}
-use Rattle.simulation_laws.specs.Simulation.{IsClearStep, step_bound}
+use Rattle.simulation_laws.specs.Simulation.{IsClearStep, adds, step_bound}
+use Rattle.simulation_laws.specs.Stopping.{counts_all}
 
 -- what is added, and the 64 private bytes, which pieces may write
 abbrev pub area_of : Frame → Area
@@ -41,18 +42,19 @@ pub record Alike (x : List ℕ) (f : Frame) (o t : State) : Type 0 where
 abbrev pub counter_number : Frame → Memory → ℕ → ℕ
 counter_number f m k = number (bytes_at m (counter_place f k) 8)
 
--- the counter of an address, where it has one, has one more, modulo 2^64, and each other has what it had
-abbrev pub CountsOne : Frame → ℕ → Memory → Memory → Type 0
-CountsOne f at m u =
-    (k : ℕ) → k < f.counters → counter_number f u k ≡ (counter_number f m k + (if counted_at f k == at then 1 else 0)) % 2 ^ 64
+-- each counter that one is added to, by its address and kind, has one more, modulo 2^64, and each other has what it had
+abbrev pub CountsOne : Frame → (ℕ → ℕ → Bool) → Memory → Memory → Type 0
+CountsOne f adds m u =
+    (k : ℕ) → k < f.counters → counter_number f u k ≡ (counter_number f m k + (if adds (counted_at f k) (kind_at f k) then 1 else 0)) % 2 ^ 64
 
 -- ---- one step
 
--- what the input's step at an address comes to, the output comes to in k steps, and has counted the address once more by
--- then: where the step completes, at the place where the address that it goes to is mapped; where it stops, at the same stop
+-- what the input's step at an address comes to, the output comes to in k steps, and has counted the step once more by
+-- then: where the step completes, at the place where the address that it goes to is mapped, in each kind that it is of;
+-- where it stops, at the same stop, among all executions
 abbrev pub ComesTo : Frame → ℕ → ℕ → State → State → Outcome → Type 0
-ComesTo f at k o t (Next o') = (r : Reaches (counting_area f) k (Moves (frame_map f)) o o' t) × CountsOne f at t.memory r.last.memory
-ComesTo f at k o t (Stopped why o') = (r : Breaks (counting_area f) k o o' t why) × CountsOne f at t.memory r.stopped.memory
+ComesTo f at k o t (Next o') = (r : Reaches (counting_area f) k (Moves (frame_map f)) o o' t) × CountsOne f (adds o) t.memory r.last.memory
+ComesTo f at k o t (Stopped why o') = (r : Breaks (counting_area f) k o o' t why) × CountsOne f (counts_all at) t.memory r.stopped.memory
 
 -- and within the bound of a step
 pub record MeetsWithin (f : Frame) (at : ℕ) (o t : State) (X : Outcome) : Type 0 where

@@ -1,5 +1,5 @@
 -- What it means that an output stops where its input stops, and shows nothing else on the way. This project's own.
-use Rattle.std.specs.Prelude.{◌≡◌, ℕ, zero, suc, ◌+◌, ◌%◌, ◌^◌, ◌<◌, ◌≤◌, ◌⊎◌, true, List, [], ◌∷◌, Option, Some, None, is_some, ◌==◌, if◌then◌else◌}
+use Rattle.std.specs.Prelude.{◌≡◌, ℕ, zero, suc, ◌+◌, ◌%◌, ◌^◌, ◌<◌, ◌≤◌, ◌⊎◌, Bool, true, List, [], ◌∷◌, Option, Some, None, is_some, ◌==◌, ◌&&◌, if◌then◌else◌}
 use Rattle.std.specs.List.{AllByRecursion}
 use Rattle.mv_base.specs.Bytes.{number}
 use Rattle.mv_base.specs.Memory.{bytes_at}
@@ -10,7 +10,7 @@ use Rattle.x86_insn.specs.declared.stop.Stop.{Stop}
 use Rattle.x86_insn.specs.declared.stop.Stop.TheVariants.{Trap, Outside}
 use Rattle.x86_insn.specs.Step.{step}
 use Rattle.step_laws.specs.Beside.{ShowsSame}
-use Rattle.elf32_write.specs.Frame.{Frame, frame, is_added, counted_at, counter_place}
+use Rattle.elf32_write.specs.Frame.{Frame, frame, is_added, counted_at, kind_at, counter_place}
 use Rattle.superset.specs.declared.site.Site.{Site}
 use Rattle.simulation_laws.specs.Code.{site_at, code_in}
 use Rattle.simulation_laws.specs.Simulation.{Start, IsStart, run_state, IsClear, executions, BothAre, AgreeAt, newest, IsPace, step_bound, Follows}
@@ -38,18 +38,22 @@ QuietIn b x f s answers n = is_some (run_state b s answers n) ≡ true → IsCle
 
 -- ---- stops
 
+-- a counter of all executions of the site at an address
+abbrev pub counts_all : ℕ → ℕ → ℕ → Bool
+counts_all at a kind = a == at && kind == 0
+
 -- at a stop at a site: the same core, descriptors, calls and answers, the same memory outside the added
--- range, and each counter as before, but for that of the site, which has one more
-pub record StopsSame (f : Frame) (at : ℕ) (o t : State) (c : ℕ → ℕ) : Type 0 where
+-- range, and each counter as before, but for that of all executions of the site, which has one more
+pub record StopsSame (f : Frame) (at : ℕ) (o t : State) (c : ℕ → ℕ → ℕ) : Type 0 where
   pub core : t.core ≡ o.core
   pub descs : t.descs ≡ o.descs
   pub same : ShowsSame (is_added f) o t
-  pub counts : (k : ℕ) → k < f.counters → number (bytes_at t.memory (counter_place f k) 8) ≡ (c (counted_at f k) + (if counted_at f k == at then 1 else 0)) % 2 ^ 64
+  pub counts : (k : ℕ) → k < f.counters → number (bytes_at t.memory (counter_place f k) 8) ≡ (c (counted_at f k) (kind_at f k) + (if counts_all at (counted_at f k) (kind_at f k) then 1 else 0)) % 2 ^ 64
 
 -- how the output's stop is that of the input at an address, after k steps from the agreeing state: at a site the same
 -- stop; elsewhere at once, as a fetch fault at the same address, where the input's is that too or the
 -- bytes are no instruction
-abbrev pub StopsAs : Option Site → Frame → ℕ → ℕ → Stop → State → Stop → State → (ℕ → ℕ) → Type 0
+abbrev pub StopsAs : Option Site → Frame → ℕ → ℕ → Stop → State → Stop → State → (ℕ → ℕ → ℕ) → Type 0
 StopsAs (Some site) f k at why o why' t c = (why' ≡ why) × StopsSame f at o t c
 StopsAs None f k at why o why' t c = (k ≡ 0) × (why' ≡ Trap FetchFault at) × ((why ≡ Trap FetchFault at) ⊎ (why ≡ Outside))
 

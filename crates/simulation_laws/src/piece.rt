@@ -3,19 +3,21 @@
 ghost use Rattle.std.specs.Prelude.{◌≡◌, ℕ, ◌∷◌, [], ◌+◌, ◌<◌, ◌≤◌, ◌^◌, true, List, Option, Some, length};
 ghost use Rattle.mv_base.specs.Memory.{exec_bytes};
 ghost use Rattle.elf32_read.specs.Runs.{code_of};
-ghost use Rattle.counter_hooks.specs.Rules.{Ascend};
+ghost use Rattle.elf32_write.specs.Frame.{AscendPairs, counted, pair_at};
 ghost use Rattle.superset.specs.Targets.{target as target_of};
 ghost use Rattle.simulation_laws.specs.Code.{site_at};
 ghost use Rattle.simulation_laws.specs.Front.{begins};
 ghost use Rattle.simulation_laws.specs.Pieces.{counter_code, piece as piece_of};
-ghost use Rattle.simulation_laws.specs.Relocated.{
-  IsOutput,
-  anchors_of,
-  counted,
-  counter_of as place_of,
+ghost use Rattle.simulation_laws.specs.Relocated.{IsOutput, anchors_of, counter_of as place_of};
+ghost use Rattle.simulation_laws.specs.Standing.{
+  counts_whole as whole_of,
+  has_bytes,
+  has_piece,
+  has_way,
+  HasRun,
 };
-ghost use Rattle.simulation_laws.specs.Standing.{has_bytes, has_piece, has_way, HasRun};
 ghost use Rattle.simulation_laws.specs.Stepping.{SiteLaw};
+ghost use Rattle.simulation_laws.specs.laws.Counters.{IsSearched, is_until as until_of};
 
 use crate::anchors::Anchors;
 use branch_lengthen::{branch_piece, copy_piece, count_piece, join_piece, jump_piece};
@@ -23,19 +25,18 @@ use call_rewrite::{call_piece, call_via_piece, jump_via_piece, return_piece};
 use counter_hooks::counter_piece;
 use elf32_read::Run;
 use elf32_write::Frame;
-use std::cmp::Ordering;
 use superset::{Piece, Site, successor, target};
 use x86_insn::Flow;
 
-/// Whether the frame's code has, where the frame maps a site of the run, the site's counter, if the frame counts the
-/// site, then the site's piece, and behind it, where the instruction may go on, the successor's entry or a join to it.
-/// The addresses that the frame counts strictly ascend. Where the code has all this, and the file loads as an output over
-/// an input with this run, each clear step of the input at the site has its law: from states that agree the output comes
-/// within the bound to what the step comes to, completed or stopped, with the site counted once more, and shows nothing
-/// else on the way.
+/// Whether the frame counts a site of the run in no kind but 0, that of all executions, and its code has, where it maps
+/// the site, the site's counter, if it has one, then the site's piece, and behind it, where the instruction may go on, the
+/// successor's entry or a join to it. The addresses that the frame counts, each with its kind, strictly ascend. Where all
+/// this holds, and the file loads as an output over an input with this run, each clear step of the input at the site has
+/// its law: from states that agree the output comes within the bound to what the step comes to, completed or stopped, with
+/// the site counted once more, and shows nothing else on the way.
 pub fn piece_at(frame: &Frame<'_>, run: &Run, site: &Site) -> bool
     requires site { site_at (code_of (run.now ∷ [])) site.now.at ≡ Some site.now }
-    requires ascends { Ascend (counted frame.now) }
+    requires ascends { AscendPairs (counted frame.now) }
     ensures value { result ≡ has_piece frame.now (code_of (run.now ∷ [])) site.now }
     ensures law { result ≡ true → (b x : List ℕ) →
         IsOutput b x frame.now → HasRun b run.now → SiteLaw b x frame.now site.now }
@@ -66,11 +67,15 @@ pub fn piece_bytes(own: &[u8], site: &Site, anchors: Anchors, here: u32, to: u32
 // The same, and nothing about a run.
 fn piece_stands(frame: &Frame<'_>, run: &Run, site: &Site) -> bool
     requires site { site_at (code_of (run.now ∷ [])) site.now.at ≡ Some site.now }
-    requires ascends { Ascend (counted frame.now) }
+    requires ascends { AscendPairs (counted frame.now) }
     ensures { result ≡ has_piece frame.now (code_of (run.now ∷ [])) site.now }
 {
+    let end = counters_until(frame, site.at);
+    if !counts_whole(frame, end, site.at) {
+        return false;
+    }
     let entry = frame.map(site.at);
-    let counter = counter_bytes(frame, site.at);
+    let counter = counter_bytes(frame, end, site.at);
     if !stands(frame, entry, counter.as_slice()) {
         return false;
     }
@@ -92,33 +97,71 @@ fn piece_stands(frame: &Frame<'_>, run: &Run, site: &Site) -> bool
     leads_on(frame, site, here + piece.len() as u32)
 }
 
-// The counter of an address, or no byte where the frame doesn't count it.
-fn counter_bytes(frame: &Frame<'_>, address: u32) -> Piece
-    requires { Ascend (counted frame.now) }
-    ensures { result ≡ counter_code (anchors_of frame.now) (place_of frame.now address) }
+// Whether counter `index` is that of all executions at an address, or stands before it.
+fn is_until(frame: &Frame<'_>, index: u32, address: u32) -> bool
+    requires { index < frame.now.counters }
+    ensures { result ≡ until_of (pair_at frame.now index) address }
 {
-    match counter_of(frame, address) {
-        Some(counter) => counter_piece(frame.private(), counter),
-        None => Piece::new(&[]),
-    }
+    let at = frame.counted_at(index);
+    at < address || (at == address && frame.kind_at(index) == 0)
 }
 
-// Where the counter of an address is, if the frame counts it.
-fn counter_of(frame: &Frame<'_>, address: u32) -> Option<u32>
-    requires { Ascend (counted frame.now) }
-    ensures { result ≡ place_of frame.now address }
+// How many counters there are up to that of all executions at an address.
+fn counters_until(frame: &Frame<'_>, address: u32) -> u32
+    requires { AscendPairs (counted frame.now) }
+    ensures { IsSearched frame.now address result result }
 {
     let mut low = 0;
     let mut high = frame.counter_count();
     while low < high {
         let middle = low + (high - low) / 2;
-        match frame.counted_at(middle).cmp(&address) {
-            Ordering::Less => low = middle + 1,
-            Ordering::Equal => return Some(frame.counter_place(middle)),
-            Ordering::Greater => high = middle,
+        if is_until(frame, middle, address) {
+            low = middle + 1;
+        } else {
+            high = middle;
         }
     }
-    None
+    high
+}
+
+// Whether an address, up to whose counter of all executions there are `end`, has no counter of another kind.
+fn counts_whole(frame: &Frame<'_>, end: u32, address: u32) -> bool
+    requires ascends { AscendPairs (counted frame.now) }
+    requires end { IsSearched frame.now address end end }
+    ensures { result ≡ whole_of frame.now address }
+{
+    if end == frame.counter_count() {
+        return true;
+    }
+    frame.counted_at(end) != address
+}
+
+// The counter of all executions at an address, up to which there are `end`, or no byte where the frame has none.
+fn counter_bytes(frame: &Frame<'_>, end: u32, address: u32) -> Piece
+    requires ascends { AscendPairs (counted frame.now) }
+    requires end { IsSearched frame.now address end end }
+    ensures { result ≡ counter_code (anchors_of frame.now) (place_of frame.now address) }
+{
+    match counter_of(frame, end, address) {
+        Some(counter) => counter_piece(frame.private(), counter),
+        None => Piece::new(&[]),
+    }
+}
+
+// Where the counter of all executions at an address is, up to which there are `end`, if the frame has it.
+fn counter_of(frame: &Frame<'_>, end: u32, address: u32) -> Option<u32>
+    requires ascends { AscendPairs (counted frame.now) }
+    requires end { IsSearched frame.now address end end }
+    ensures { result ≡ place_of frame.now address }
+{
+    if end == 0 {
+        return None;
+    }
+    let last = end - 1;
+    if frame.counted_at(last) != address {
+        return None;
+    }
+    Some(frame.counter_place(last))
 }
 
 // The bytes of a site's instruction.

@@ -1,7 +1,7 @@
 -- A site with its counter, where it has one: the counter counts, and from there the piece comes to what the instruction
 -- comes to.
-use Rattle.std.proofs.Common.{◌≡◌, ℕ, ◌⊎◌, inl, inr, ◌+◌, ◌*◌, ◌%◌, ◌^◌, ◌<◌, ◌≤◌, Bool, true, false, ◌||◌, ◌==◌, List, length, Option, Some, None, if◌then◌else◌, nat_le, nat_lt, refl, sym, ap, ◌∙◌, subst, arith, ⊎_elim}
-use Rattle.std.proofs.lemmas.Bool.{and_parts, and_from, and_left, and_right, le-leb, lt-ltb, lt-leb, le-ltb, leb-true, ltb-true, ne_eqb, eqb-true, eqb-false, both_ways, cases_Bool, or_cases, cases_lt}
+use Rattle.std.proofs.Common.{◌≡◌, ℕ, ◌⊎◌, inl, inr, ◌+◌, ◌*◌, ◌%◌, ◌^◌, ◌<◌, ◌≤◌, Bool, true, false, ◌&&◌, ◌||◌, ◌==◌, List, length, Option, Some, None, if◌then◌else◌, nat_le, nat_lt, refl, sym, ap, ◌∙◌, subst, arith, ⊎_elim}
+use Rattle.std.proofs.lemmas.Bool.{and_parts, and_from, and_left, and_right, le-leb, lt-ltb, lt-leb, le-ltb, leb-true, ltb-true, eq-eqb, eqb-true, both_ways, cases_Bool, or_left, or_cases, cases_lt}
 use Rattle.mv_base.specs.Bytes.{number}
 use Rattle.mv_base.specs.Memory.{Memory, IsMemory, address_after, bytes_at, within}
 use Rattle.x86_insn.specs.State.{State, IsCore, Outcome, Next, Stopped}
@@ -16,20 +16,20 @@ use Rattle.step_laws.specs.laws.Alongside.{keeps_on, keeps_same}
 use Rattle.step_laws.specs.laws.Resting.{cells_keep, cells_beside, rest_shows, rest_top}
 use Rattle.counter_hooks.specs.Counter.{counter}
 use Rattle.counter_hooks.specs.Counting.{is_scratch, counting_steps, IsCounting, Counts}
-use Rattle.counter_hooks.specs.Rules.{Ascend}
 use Rattle.counter_hooks.specs.laws.Counted.{counter_length, counts}
 use Rattle.elf32_write.specs.Format as format
-use Rattle.elf32_write.specs.Frame.{Frame, frame_map, is_added, is_private, counted_at, counter_place}
+use Rattle.elf32_write.specs.Frame.{Frame, frame_map, is_added, is_private, counted_at, kind_at, pair_at, counted, AscendPairs, counter_place}
 use Rattle.superset.specs.declared.site.Site.{Site}
 use Rattle.simulation_laws.specs.Pieces.{counter_code}
-use Rattle.simulation_laws.specs.Relocated.{StandAt, PieceAt, IsOutput, anchors_of, counted, counter_of}
-use Rattle.simulation_laws.specs.Simulation.{IsClearStep}
+use Rattle.simulation_laws.specs.Relocated.{StandAt, CountsWhole, PieceAt, IsOutput, anchors_of, counter_of}
+use Rattle.simulation_laws.specs.Simulation.{IsClearStep, is_of_edge, is_of_kind, jumps, adds}
+use Rattle.simulation_laws.specs.Stopping.{counts_all}
 use Rattle.simulation_laws.specs.Stepping.{area_of, counting_area, IsSound, Alike, AtSite, counter_number, CountsOne, MeetsWithin, SiteLaw}
 use Rattle.simulation_laws.specs.laws.Ruled.{IsRuled, ruled}
 use Rattle.simulation_laws.specs.laws.Sound.{keeps_more, alike_beyond, counting_there, stands_in}
 use Rattle.simulation_laws.specs.laws.AtSite.{site_of, Placed, counter_most, PieceMeets, piece_meets}
 use Rattle.simulation_laws.specs.laws.Numbers.{bytes_same, eight_are, eight_low, spell_back}
-use Rattle.simulation_laws.specs.laws.Counters.{IsCounter, is_counter, no_counter, apart}
+use Rattle.simulation_laws.specs.laws.Counters.{IsWhole, IsCounter, whole_by, is_whole, no_whole, is_counter, no_counter, apart}
 
 -- a range within another
 within_more : (lo len from room a : ℕ) → from ≤ lo → lo + len ≤ from + room → within lo len a ≡ true → within from room a ≡ true
@@ -41,6 +41,19 @@ within_more lo len from room a low high h =
 within_never : (lo len a : ℕ) → (a < lo) ⊎ (lo + len ≤ a) → within lo len a ≡ false
 within_never lo len a (inl h) = and_left _ _ (lt-leb lo a h)
 within_never lo len a (inr h) = and_right (nat_le lo a) (nat_lt a (lo + len)) (le-ltb a (lo + len) h)
+
+-- where a site has counters of all executions alone, what a step there adds to is such a counter
+each_kind : (kind : ℕ) (jumped : Option Bool) → kind ≡ 0 → is_of_kind kind jumped ≡ true
+each_kind kind jumped e = or_left (kind == 0) (is_of_edge kind jumped) (eq-eqb kind 0 e)
+
+adds_all : (f : Frame) (o : State) (at : ℕ) → o.eip ≡ at → CountsWhole f at → (k : ℕ) → k < f.counters → adds o (counted_at f k) (kind_at f k) ≡ counts_all at (counted_at f k) (kind_at f k)
+adds_all f o at e whole k lt = ap (λ (a : ℕ). counted_at f k == a && is_of_kind (kind_at f k) (jumps o)) e ∙ go (counted_at f k == at) refl
+  where
+    go : (v : Bool) → (counted_at f k == at) ≡ v → (counted_at f k == at && is_of_kind (kind_at f k) (jumps o)) ≡ (counted_at f k == at && kind_at f k == 0)
+    go true h =
+        let none = whole k lt (eqb-true (counted_at f k) at h) in
+        ap (λ (v : Bool). counted_at f k == at && v) (each_kind (kind_at f k) (jumps o) none ∙ sym (eq-eqb (kind_at f k) 0 none))
+    go false h = and_left (counted_at f k == at) _ h ∙ sym (and_left (counted_at f k == at) _ h)
 
 module _ (b x : List ℕ) (f : Frame) (rel : IsOutput b x f) where
   -- ---- where counters are
@@ -82,10 +95,10 @@ module _ (b x : List ℕ) (f : Frame) (rel : IsOutput b x f) where
     told : State
     passes : Passes (ShowsSame (is_added f) o) steps t told
     keeps : Keeps (counting_area f) t.memory told.memory
-    counts : CountsOne f at t.memory told.memory
+    counts : CountsOne f (counts_all at) t.memory told.memory
 
-  told_meets : (at : ℕ) (o t : State) (X : Outcome) (h : IsTold at o t) → PieceMeets f o h.told X → MeetsWithin f at o t X
-  told_meets at o t (Next o') h m =
+  told_meets : (at : ℕ) (o t : State) (X : Outcome) → o.eip ≡ at → CountsWhole f at → (h : IsTold at o t) → PieceMeets f o h.told X → MeetsWithin f at o t X
+  told_meets at o t (Next o') here whole h m =
       let r = m.meets in
       record {
         count = h.steps + m.count;
@@ -99,10 +112,12 @@ module _ (b x : List ℕ) (f : Frame) (rel : IsOutput b x f) where
             keeps = keeps_on (counting_area f) t.memory h.told.memory r.last.memory h.keeps (keeps_more f h.told.memory r.last.memory r.keeps);
             arrives = r.arrives;
           },
-          λ k lt. same_number h.told.memory r.last.memory r.keeps k lt ∙ h.counts k lt,
+          λ k lt.
+              same_number h.told.memory r.last.memory r.keeps k lt
+              ∙ (h.counts k lt ∙ ap (λ (v : Bool). (counter_number f t.memory k + (if v then 1 else 0)) % 2 ^ 64) (sym (adds_all f o at here whole k lt))),
         );
       }
-  told_meets at o t (Stopped why o') h m =
+  told_meets at o t (Stopped why o') here whole h m =
       let r = m.meets in
       record {
         count = h.steps + m.count;
@@ -125,12 +140,12 @@ module _ (b x : List ℕ) (f : Frame) (rel : IsOutput b x f) where
       }
 
   module _ (o t : State) (sound : IsSound b o) (alike : Alike x f o t) (cells : IsMemory t.memory) (here : ℕ) (place : t.eip ≡ here) where
-    -- one more at no counter's address
-    none_more : (at k : ℕ) → (counted_at f k ≡ at → ⊥) → counter_number f t.memory k ≡ (counter_number f t.memory k + (if counted_at f k == at then 1 else 0)) % 2 ^ 64
+    -- one more at no counter
+    none_more : (at k : ℕ) → (IsWhole (pair_at f k) at → ⊥) → counter_number f t.memory k ≡ (counter_number f t.memory k + (if counts_all at (counted_at f k) (kind_at f k) then 1 else 0)) % 2 ^ 64
     none_more at k other =
         let low = eight_low t.memory cells (counter_place f k) in
         let same : counter_number f t.memory k ≡ (counter_number f t.memory k + 0) % 2 ^ 64 = omega (arith, low) in
-        same ∙ ap (λ (v : Bool). (counter_number f t.memory k + (if v then 1 else 0)) % 2 ^ 64) (sym (ne_eqb (counted_at f k) at other))
+        same ∙ ap (λ (v : Bool). (counter_number f t.memory k + (if v then 1 else 0)) % 2 ^ 64) (sym (no_whole (pair_at f k) at other))
 
     -- an address that has none
     untold : (at : ℕ) → counter_of f at ≡ None → IsTold at o t
@@ -145,7 +160,7 @@ module _ (b x : List ℕ) (f : Frame) (rel : IsOutput b x f) where
 
     -- ---- the counter
 
-    module _ (at p : ℕ) (is : IsCounter f at p) (ascends : Ascend (counted f)) (stand : StandAt x f here (counter f.private p)) where
+    module _ (at p : ℕ) (is : IsCounter f at p) (ascends : AscendPairs (counted f)) (stand : StandAt x f here (counter f.private p)) where
       there : HasArea (counting_area f) t.memory
       there = counting_there b x f rel o t alike
 
@@ -222,17 +237,18 @@ module _ (b x : List ℕ) (f : Frame) (rel : IsOutput b x f) where
               ap (λ (v : Bool). v || within p 8 (counter_place f k + j)) (within_never f.private 4 (counter_place f k + j) (inr (omega (arith, place_is k))))
               ∙ within_never p 8 (counter_place f k + j) (side j l)
 
-      counts_one : CountsOne f at t.memory run.last.memory
-      counts_one k lt = go (counted_at f k == at) refl
+      counts_one : CountsOne f (counts_all at) t.memory run.last.memory
+      counts_one k lt = go (counts_all at (counted_at f k) (kind_at f k)) refl
         where
-          go : (v : Bool) → (counted_at f k == at) ≡ v → counter_number f run.last.memory k ≡ (counter_number f t.memory k + (if counted_at f k == at then 1 else 0)) % 2 ^ 64
+          go : (v : Bool) → counts_all at (counted_at f k) (kind_at f k) ≡ v → counter_number f run.last.memory k ≡ (counter_number f t.memory k + (if counts_all at (counted_at f k) (kind_at f k) then 1 else 0)) % 2 ^ 64
           go true e =
-              let same : is.number ≡ k = apart f ascends is.number k is.below lt (is.is ∙ sym (eqb-true (counted_at f k) at e)) in
+              let whole = whole_by (pair_at f k) at e in
+              let same : is.number ≡ k = apart f ascends is.number k is.below lt (is.is.0 ∙ sym whole.0) (is.is.1 ∙ sym whole.1) in
               subst (λ k. counter_number f run.last.memory k ≡ (counter_number f t.memory k + 1) % 2 ^ 64) same own_more
               ∙ ap (λ (v : Bool). (counter_number f t.memory k + (if v then 1 else 0)) % 2 ^ 64) (sym e)
           go false e =
-              let other = eqb-false (counted_at f k) at e in
-              other_same k lt (λ same. other (ap (counted_at f) same ∙ is.is)) ∙ none_more at k other
+              let other : IsWhole (pair_at f k) at → ⊥ = λ whole. both_ways (counts_all at (counted_at f k) (kind_at f k)) e (is_whole (pair_at f k) at whole) in
+              other_same k lt (λ same. other (subst (λ n. IsWhole (pair_at f n) at) (sym same) is.is)) ∙ none_more at k other
 
       few : counting_steps now ≤ counter_most
       few = either ((now + 1) % 2 ^ 32 == 0)
@@ -269,26 +285,26 @@ module _ (b x : List ℕ) (f : Frame) (rel : IsOutput b x f) where
 
   -- ---- the site
 
-  site_meets : (s : Site) (o t : State) → Ascend (counted f) → AtSite b x f s o t → IsClearStep b f o → (c : Option ℕ) → counter_of f s.at ≡ c
+  site_meets : (s : Site) (o t : State) → AscendPairs (counted f) → CountsWhole f s.at → AtSite b x f s o t → IsClearStep b f o → (c : Option ℕ) → counter_of f s.at ≡ c
       → StandAt x f (frame_map f s.at) (counter_code (anchors_of f) c) → Placed b x f (frame_map f s.at + length (counter_code (anchors_of f) c)) s → MeetsWithin f s.at o t (step o)
   unfolding untold told run
-  site_meets s o t ascends h clear None e stand at =
+  site_meets s o t ascends whole h clear None e stand at =
       let same : s ≡ site_of o s.insn s.len = λ i. record { at = sym h.at i; len = s.len; insn = s.insn } in
       let here : t.eip ≡ frame_map f s.at + 0 = h.place ∙ ap (frame_map f) h.at ∙ (let zero : frame_map f s.at ≡ frame_map f s.at + 0 = omega arith in zero) in
-      told_meets s.at o t (step o) (untold o t h.sound h.alike h.cells (frame_map f s.at + 0) here s.at e)
+      told_meets s.at o t (step o) h.at whole (untold o t h.sound h.alike h.cells (frame_map f s.at + 0) here s.at e)
       (piece_meets b x f rel o t s.insn s.len h.sound h.alike (frame_map f s.at + 0) here h.found (subst (Placed b x f (frame_map f s.at + 0)) same at) clear)
-  site_meets s o t ascends h clear (Some p) e stand at =
+  site_meets s o t ascends whole h clear (Some p) e stand at =
       let same : s ≡ site_of o s.insn s.len = λ i. record { at = sym h.at i; len = s.len; insn = s.insn } in
       let here = frame_map f s.at in
       let place : t.eip ≡ here = h.place ∙ ap (frame_map f) h.at in
       let is = is_counter f s.at p e in
       let first = told o t h.sound h.alike h.cells here place s.at p is ascends stand in
       let behind = here + length (counter f.private p) in
-      told_meets s.at o t (step o) first
+      told_meets s.at o t (step o) h.at whole first
       (piece_meets b x f rel o first.told s.insn s.len h.sound (alike_there o t h.sound h.alike h.cells here place s.at p is ascends stand) behind
       (run o t h.sound h.alike h.cells here place s.at p is ascends stand).place h.found (subst (Placed b x f behind) same at) clear)
 
 -- where a site's counter and piece stand and lead on, the site's law holds
-pub site_law : (b x : List ℕ) (f : Frame) (s : Site) → IsOutput b x f → Ascend (counted f) → PieceAt b x f s → SiteLaw b x f s
+pub site_law : (b x : List ℕ) (f : Frame) (s : Site) → IsOutput b x f → AscendPairs (counted f) → PieceAt b x f s → SiteLaw b x f s
 site_law b x f s rel ascends at o t h clear =
-    site_meets b x f rel s o t ascends h clear (counter_of f s.at) refl at.counts (record { stands = at.stands; leads = at.leads })
+    site_meets b x f rel s o t ascends at.whole h clear (counter_of f s.at) refl at.counts (record { stands = at.stands; leads = at.leads })

@@ -1,7 +1,7 @@
 -- The run of a relocated output follows the run of its input.
-use Rattle.std.proofs.Common.{◌≡◌, ℕ, zero, suc, ◌⊎◌, inl, inr, ◌+◌, ◌-◌, ◌%◌, ◌^◌, ◌<◌, ◌≤◌, ◌==◌, if◌then◌else◌, Bool, true, false, List, [], ◌∷◌, Option, Some, None, is_some, refl, sym, ap, ◌∙◌, subst, ⊎_elim, arith}
+use Rattle.std.proofs.Common.{◌≡◌, ℕ, zero, suc, ◌⊎◌, inl, inr, ◌+◌, ◌-◌, ◌%◌, ◌^◌, ◌<◌, ◌≤◌, if◌then◌else◌, Bool, true, false, List, [], ◌∷◌, Option, Some, None, is_some, refl, sym, ap, ◌∙◌, subst, ⊎_elim, arith}
 use Rattle.std.specs.List.{AllByRecursion}
-use Rattle.std.proofs.lemmas.Bool.{both_ways, eq-eqb, ne_eqb, eqb-true, eqb-false}
+use Rattle.std.proofs.lemmas.Bool.{both_ways}
 use Rattle.std.proofs.lemmas.Option.{none-some, same_Some}
 use Rattle.mv_base.specs.Memory.{Cell, IsMemory, byte_of, first_of, joined}
 use Rattle.mv_base.specs.Bytes.{AreBytes}
@@ -17,11 +17,11 @@ use Rattle.step_laws.specs.laws.Cells.{may_execute, exec_cell_none}
 use Rattle.step_laws.specs.laws.Copying.{shows_of}
 use Rattle.step_laws.specs.laws.Lasting.{run_fits}
 use Rattle.elf32_read.specs.Load.{load}
-use Rattle.elf32_write.specs.Frame.{Frame, frame_map, is_added, counted_at, counter_place}
+use Rattle.elf32_write.specs.Frame.{Frame, frame_map, is_added, counted_at, kind_at, counter_place}
 use Rattle.simulation_laws.specs.Relocated.{without_exec}
 use Rattle.simulation_laws.specs.Followed.{IsCarried}
 use Rattle.simulation_laws.specs.Stepping.{counting_area, IsSound}
-use Rattle.simulation_laws.specs.Simulation.{Start, IsStart, begin, run_state, IsClear, Agree, stands_at, executions, BothAre, AgreeAt, newest, IsPace, step_bound, FollowsIn, Follows}
+use Rattle.simulation_laws.specs.Simulation.{Start, IsStart, begin, run_state, IsClear, Agree, adds, adds_there, executions, BothAre, AgreeAt, newest, IsPace, step_bound, FollowsIn, Follows}
 use Rattle.simulation_laws.specs.Stopping.{ShowsAt, QuietPace}
 use Rattle.simulation_laws.specs.laws.Bounded.{load_low, load_bytes, word_at-lt}
 use Rattle.simulation_laws.specs.laws.Sound.{HasCounts, counts_on, alike_of, agree_of, alike_beyond, sound_after}
@@ -47,16 +47,9 @@ pace_at At bound zero (m ∷ k ∷ ms) h = absurd h
 pace_at At bound (suc n) [] h = absurd h
 pace_at At bound (suc n) (m ∷ ms) h = h.2
 
-none_yet : (run : ℕ → Option State) (a : ℕ) → executions run 0 a ≡ 0
+none_yet : (run : ℕ → Option State) (a kind : ℕ) → executions run 0 a kind ≡ 0
 unfolding executions
-none_yet run a = refl
-
-turned : (a b : ℕ) → (a == b) ≡ (b == a)
-turned a b = go (a == b) refl
-  where
-    go : (v : Bool) → (a == b) ≡ v → (a == b) ≡ (b == a)
-    go true e = e ∙ sym (eq-eqb b a (sym (eqb-true a b e)))
-    go false e = e ∙ sym (ne_eqb b a (λ s. eqb-false a b e (sym s)))
+none_yet run a kind = refl
 
 -- ---- the first states
 
@@ -120,16 +113,16 @@ module _ (b x : List ℕ) (f : Frame) (rel : IsCarried b x f) where
   }
 
   -- each counter begins at 0
-  begin_counts : (s : Start) (c : ℕ → ℕ) → ((a : ℕ) → c a ≡ 0) → ((a : ℕ) → is_added f a ≡ true → s.cells a ≡ None) → HasCounts f (joined (load x) s.cells) c
+  begin_counts : (s : Start) (c : ℕ → ℕ → ℕ) → ((a kind : ℕ) → c a kind ≡ 0) → ((a : ℕ) → is_added f a ≡ true → s.cells a ≡ None) → HasCounts f (joined (load x) s.cells) c
   begin_counts s c none clear k lt =
       let place = counter_place f k in
       zeros_spell (joined (load x) s.cells) place (omega (arith, place_is b x f rel.output k, lt, private_end b x f rel.output)) (λ j l.
       let private = counter_byte b x f rel.output k j lt l in
       ap (λ a. byte_of (joined (load x) s.cells a)) (at_byte b x f rel.output k j lt l)
       ∙ (ap byte_of (joined_alone (load x (place + j)) (s.cells (place + j)) (clear (place + j) (rel.output.scratch (place + j) private).0)) ∙ rel.output.zeros (place + j) private))
-      ∙ ap (λ (n : ℕ). n % 2 ^ 64) (sym (none (counted_at f k)))
+      ∙ ap (λ (n : ℕ). n % 2 ^ 64) (sym (none (counted_at f k) (kind_at f k)))
 
-  begin_agree : (s : Start) (answers : List Answer) (c : ℕ → ℕ) → ((a : ℕ) → c a ≡ 0) → IsStart b s → ((a : ℕ) → is_added f a ≡ true → s.cells a ≡ None) → Agree b x f (begin b s answers) (begin x s answers) c
+  begin_agree : (s : Start) (answers : List Answer) (c : ℕ → ℕ → ℕ) → ((a kind : ℕ) → c a kind ≡ 0) → IsStart b s → ((a : ℕ) → is_added f a ≡ true → s.cells a ≡ None) → Agree b x f (begin b s answers) (begin x s answers) c
   begin_agree s answers c none start clear = record {
     core = refl;
     descs = refl;
@@ -168,12 +161,10 @@ module _ (b x : List ℕ) (f : Frame) (rel : IsCarried b x f) where
     agreeing n o way here =
         both_other (λ o t. Agree b x f o t (executions (run_state b s answers) n)) _ (run_state x s answers (newest way.pace)) o here (pace_at (AgreeAt b x f s answers) (step_bound f) n way.pace way.paced)
 
-    -- one execution more of where the input's n-th state stands
-    executions_on : (n : ℕ) (o : State) (a : ℕ) → run_state b s answers n ≡ Some o → executions (run_state b s answers) (suc n) a ≡ executions (run_state b s answers) n a + (if a == o.eip then 1 else 0)
+    -- one execution more of what the input's n-th state begins
+    executions_on : (n : ℕ) (o : State) (a kind : ℕ) → run_state b s answers n ≡ Some o → executions (run_state b s answers) (suc n) a kind ≡ executions (run_state b s answers) n a kind + (if adds o a kind then 1 else 0)
     unfolding executions
-    executions_on n o a here =
-        ap (λ (r : Option State). executions (run_state b s answers) n a + (if stands_at a r then 1 else 0)) here
-        ∙ ap (λ (v : Bool). executions (run_state b s answers) n a + (if v then 1 else 0)) (turned o.eip a)
+    executions_on n o a kind here = ap (λ (r : Option State). executions (run_state b s answers) n a kind + (if adds_there r a kind then 1 else 0)) here
 
     -- from one agreeing state to the next, the output shows what the input shows before the step or after it
     goes_quietly : (n m : ℕ) (o o' t : State) → run_state b s answers n ≡ Some o → run_state b s answers (suc n) ≡ Some o' → run_state x s answers m ≡ Some t → (count : ℕ) (h : Reaches (counting_area f) count (Moves (frame_map f)) o o' t) → (k : ℕ) → m ≤ k → k ≤ m + count → ShowsAt b x f s answers n k ⊎ ShowsAt b x f s answers (suc n) k
@@ -194,9 +185,9 @@ module _ (b x : List ℕ) (f : Frame) (rel : IsCarried b x f) where
             let alike = alike_of b x f l.before other.0 _ other.2 in
             let comes = step_meets b x f rel l.before other.0 (sound n l.before l.there) alike (fits m other.0 other.1).memory other.2.place l.after (clear.steps n (omega arith) l.before l.there) l.steps in
             let r = comes.comes.0 in
-            let counts = counts_on f l.before.eip other.0.memory r.last.memory (executions (run_state b s answers) n) other.2.counts comes.comes.1 in
+            let counts = counts_on f (adds l.before) other.0.memory r.last.memory (executions (run_state b s answers) n) other.2.counts comes.comes.1 in
             let more : HasCounts f r.last.memory (executions (run_state b s answers) (suc n)) =
-            λ k lt. counts k lt ∙ ap (λ (c : ℕ). c % 2 ^ 64) (sym (executions_on n l.before (counted_at f k) l.there)) in
+            λ k lt. counts k lt ∙ ap (λ (c : ℕ). c % 2 ^ 64) (sym (executions_on n l.before (counted_at f k) (kind_at f k) l.there)) in
             let agree = agree_of b x f l.after r.last (executions (run_state b s answers) (suc n)) (sound (suc n) l.after first) (alike_beyond x f l.before l.after other.0 r.last alike r.alike r.keeps) r.arrives more in
             let second = state_later comes.count m (begin x s answers) other.0 r.last other.1 (passes_arrives _ comes.count other.0 r.last r.passes) in
             record {

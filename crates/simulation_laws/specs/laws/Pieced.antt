@@ -1,5 +1,5 @@
 -- Where a frame's code has a site's piece and what leads on behind it, the site has its law.
-use Rattle.std.proofs.Common.{◌≡◌, ℕ, ◌+◌, ◌-◌, ◌<◌, ◌≤◌, ◌⊎◌, inl, inr, Bool, true, false, ◌&&◌, ◌||◌, List, [], ◌∷◌, length, drop, Option, Some, None, nat_le, nat_lt, cond, ◌==◌, ◌^◌, take, slice_get, ⊎_elim, refl, sym, ap, ◌∙◌, subst, arith}
+use Rattle.std.proofs.Common.{◌≡◌, ℕ, ◌+◌, ◌-◌, ◌<◌, ◌≤◌, ◌⊎◌, inl, inr, Bool, true, false, ◌||◌, List, [], ◌∷◌, length, drop, Option, Some, None, nat_le, nat_lt, cond, ◌==◌, ◌^◌, take, slice_get, ⊎_elim, refl, sym, ap, ◌∙◌, subst, arith}
 use Rattle.std.specs.Prelude.{not}
 use Rattle.std.proofs.lemmas.Bool.{and_parts, and_from, leb-true, ltb-true, le-leb, lt-ltb, eqb-true, or_cases}
 use Rattle.std.proofs.lemmas.List.{length-drop, length-take, get_or-drop}
@@ -14,9 +14,8 @@ use Rattle.step_laws.specs.laws.Fetching.{IsFound, is_found, found_pos, found_le
 use Rattle.elf32_read.specs.declared.run.Run.{Run}
 use Rattle.elf32_read.specs.Load.{load}
 use Rattle.elf32_read.specs.Runs.{code_of}
-use Rattle.counter_hooks.specs.Rules.{Ascend}
 use Rattle.elf32_write.specs.Format.{private_len}
-use Rattle.elf32_write.specs.Frame.{Frame, frame_code, frame_map, is_added, is_private}
+use Rattle.elf32_write.specs.Frame.{Frame, frame_code, frame_map, is_added, is_private, counted, AscendPairs}
 use Rattle.superset.specs.declared.site.Site.{Site}
 use Rattle.superset.specs.Sites.{site_found}
 use Rattle.superset.specs.RunBytes.{exec_same, exec_run, run_byte, outside_below}
@@ -24,10 +23,11 @@ use Rattle.simulation_laws.specs.declared.anchors.Anchors.{Anchors}
 use Rattle.simulation_laws.specs.Code.{site_at, code_in}
 use Rattle.simulation_laws.specs.Front.{begins}
 use Rattle.simulation_laws.specs.Pieces.{successor, piece_of}
-use Rattle.simulation_laws.specs.Relocated.{StandAt, IsOutput, anchors_of, counted, counter_there, piece_place, piece_there}
-use Rattle.simulation_laws.specs.Standing.{has_bytes, has_way, has_piece, piece_over, HasRun}
+use Rattle.simulation_laws.specs.Relocated.{StandAt, IsOutput, anchors_of, counter_there, piece_place, piece_there}
+use Rattle.simulation_laws.specs.Standing.{counts_whole, has_bytes, has_way, has_piece, piece_over, HasRun}
 use Rattle.simulation_laws.specs.Stepping.{SiteLaw}
 use Rattle.simulation_laws.specs.laws.CountedSite.{site_law}
+use Rattle.simulation_laws.specs.laws.Counters.{whole_of}
 use Rattle.simulation_laws.specs.laws.Fronts.{begins_same}
 use Rattle.simulation_laws.specs.laws.Ruled.{ruled, code_fits}
 
@@ -133,15 +133,17 @@ way_by b x f here s rel h on =
     let either = or_cases (not (falls (flow_of s.insn)) || frame_map f (successor s) == here) (has_bytes f here join) h in
     ⊎_elim (λ e. inl (eqb-true (frame_map f (successor s)) here (sym known ∙ e))) (λ e. inr (stands_by b x f here join rel e)) either
 
-pub pieced : (b x : List ℕ) (f : Frame) (r : Run) (s : Site) → site_at (code_of (r ∷ [])) s.at ≡ Some s → Ascend (counted f) → has_piece f (code_of (r ∷ [])) s ≡ true → IsOutput b x f → HasRun b r → SiteLaw b x f s
+pub pieced : (b x : List ℕ) (f : Frame) (r : Run) (s : Site) → site_at (code_of (r ∷ [])) s.at ≡ Some s → AscendPairs (counted f) → has_piece f (code_of (r ∷ [])) s ≡ true → IsOutput b x f → HasRun b r → SiteLaw b x f s
 pieced b x f r s site ascends h rel has =
     let is = site_of_run r s site in
     let over = piece_over f (code_of (r ∷ [])) s in
-    let p = and_parts (has_bytes f (frame_map f s.at) (counter_there f s) && has_bytes f (piece_place f s) over) (has_way f (piece_place f s + length over) s) h in
-    let q = and_parts (has_bytes f (frame_map f s.at) (counter_there f s)) (has_bytes f (piece_place f s) over) p.0 in
+    let p = and_parts _ (has_way f (piece_place f s + length over) s) h in
+    let q = and_parts _ (has_bytes f (piece_place f s) over) p.0 in
+    let w = and_parts (counts_whole f s.at) (has_bytes f (frame_map f s.at) (counter_there f s)) q.0 in
     let same : over ≡ piece_there b f s = sym (piece_same (flow_of s.insn) (anchors_of f) (frame_map f) (code_in b) (code_of (r ∷ [])) (piece_place f s) s (own_same b r s is has)) in
     site_law b x f s rel ascends (record {
-      counts = stands_by b x f (frame_map f s.at) (counter_there f s) rel q.0;
+      whole = whole_of f s.at w.0;
+      counts = stands_by b x f (frame_map f s.at) (counter_there f s) rel w.1;
       stands = subst (StandAt x f (piece_place f s)) same (stands_by b x f (piece_place f s) over rel q.1);
       leads = λ on. way_by b x f (piece_place f s + length (piece_there b f s)) s rel (subst (λ (l : List ℕ). has_way f (piece_place f s + length l) s ≡ true) same p.1) on;
     })

@@ -7,7 +7,7 @@ use Rattle.mv_base.specs.declared.range.RunPlace.{RunPlace}
 use Rattle.mv_base.specs.Table.{group_count, page_named}
 use Rattle.elf32_write.specs.Format.{up, private_len}
 use Rattle.elf32_write.specs.File.{code_place}
-use Rattle.elf32_write.specs.Frame.{Frame, TableAt, table_at, frame, frame_at, has_record, keeps_rules, has_places, has_block, is_run, is_in_table, has_pages, has_part, has_runs, frame_table, frame_code}
+use Rattle.elf32_write.specs.Frame.{Frame, TableAt, table_at, frame, frame_at, list_len, has_record, keeps_rules, has_numbers, has_kinds, has_places, has_block, is_run, is_in_table, has_pages, has_part, has_runs, frame_table, frame_code}
 use Rattle.elf32_write.specs.Written.{up-le}
 use Rattle.lookup_stub.specs.Finding.{AreIn, IsPlaced}
 
@@ -27,27 +27,24 @@ pub record IsRuled (f : Frame) : Type 0 where
 code_len : (f : Frame) → length (frame_code f) ≤ f.code.len
 code_len f = omega (arith, length-take f.code.len (drop (code_place f.input_len) f.file))
 
-rules_hold : (f : Frame) → keeps_rules f ≡ true → IsRuled f
+rules_hold : (f : Frame) → has_places f ≡ true → has_block f ≡ true → has_runs (table_at f) 0 f.runs ≡ true → IsRuled f
 unfolding has_places has_block frame_table
-rules_hold f h =
-    let k3 = and_parts _ _ h in
-    let k2 = and_parts _ _ k3.0 in
-    let k1 = and_parts _ _ k2.0 in
-    let p7 = and_parts _ _ k1.0 in
+rules_hold f places block runs =
+    let p7 = and_parts _ _ places in
     let p6 = and_parts _ _ p7.0 in
     let p5 = and_parts _ _ p6.0 in
     let p4 = and_parts _ _ p5.0 in
     let p3 = and_parts _ _ p4.0 in
     let p2 = and_parts _ _ p3.0 in
     let p1 = and_parts _ _ p2.0 in
-    let b2 = and_parts _ _ k1.1 in
+    let b2 = and_parts _ _ block in
     let b1 = and_parts _ _ b2.0 in
     let code : f.code.lo ≡ f.added.lo = eqb-true _ _ p1.0 in
     let table : f.table.lo ≡ f.added.lo + up f.code.len = eqb-true _ _ p1.1 in
     let private : f.private ≡ f.table.lo + up f.table.len = eqb-true _ _ p2.1 in
     let size : f.private_size ≡ 64 = eqb-true _ _ p3.1 in
     let first : f.first_counter ≡ f.private + 64 = eqb-true _ _ p4.1 in
-    let list : f.list ≡ f.table.lo + (f.table.len - 4 * f.counters) = eqb-true _ _ p6.1 in
+    let list : f.list ≡ f.table.lo + (f.table.len - list_len f.version f.counters) = eqb-true _ _ p6.1 in
     let added : f.added.len ≡ up f.code.len + up f.table.len + up (private_len f.counters) = eqb-true _ _ p7.1 in
     let whole : length f.file ≡ code_place f.input_len + up f.code.len + up f.table.len = eqb-true _ _ b1.0 in
     let low : f.added.lo + f.added.len ≤ 0xB0000000 = leb-true _ _ b2.1 in
@@ -64,17 +61,26 @@ rules_hold f h =
       fits = omega (arith, code, table, private, added, s);
       list = omega (arith, list);
       held = omega (arith, length-take f.table.len (drop (code_place f.input_len + up f.code.len) f.file), length-drop (code_place f.input_len + up f.code.len) f.file, whole, t);
-      runs = k3.1;
+      runs = runs;
     }
 
-by_rules : (x : List ℕ) (f : Frame) (b c : Bool) → c ≡ keeps_rules (frame_at x) → cond (b && c) (Some (frame_at x)) None ≡ Some f → IsRuled f
-by_rules x f true true e h = subst IsRuled (cc h) (rules_hold (frame_at x) (sym e))
+numbers_hold : (x : List ℕ) → keeps_rules x ≡ true → IsRuled (frame_at x)
+numbers_hold x h =
+    let k2 = and_parts (has_numbers x && has_kinds (frame_at x)) (has_runs (table_at (frame_at x)) 0 (frame_at x).runs) h in
+    let k1 = and_parts (has_numbers x) (has_kinds (frame_at x)) k2.0 in
+    let n3 = and_parts _ _ k1.0 in
+    let n2 = and_parts _ _ n3.0 in
+    let n1 = and_parts (has_places (frame_at x)) (has_block (frame_at x)) n2.0 in
+    rules_hold (frame_at x) n1.0 n1.1 k2.1
+
+by_rules : (x : List ℕ) (f : Frame) (b c : Bool) → c ≡ keeps_rules x → cond (b && c) (Some (frame_at x)) None ≡ Some f → IsRuled f
+by_rules x f true true e h = subst IsRuled (cc h) (numbers_hold x (sym e))
 by_rules x f true false e h = absurd (cc h)
 by_rules x f false c e h = absurd (cc h)
 
 pub ruled : (x : List ℕ) (f : Frame) → frame x ≡ Some f → IsRuled f
 unfolding frame
-ruled x f h = by_rules x f (has_record x) (keeps_rules (frame_at x)) refl h
+ruled x f h = by_rules x f (has_record x) (keeps_rules x) refl h
 
 pub code_fits : (f : Frame) → length (frame_code f) ≤ f.code.len
 code_fits = code_len

@@ -23,7 +23,7 @@ use Rattle.simulation_laws.specs.Relocated.{IsRelocated}
 use Rattle.simulation_laws.specs.laws.CountedSite.{site_law}
 use Rattle.simulation_laws.specs.Stepping.{IsSound, MeetsWithin}
 use Rattle.simulation_laws.specs.Simulation.{Start, IsStart, begin, run_state, IsClear, IsClearStep, Agree, newest, step_bound}
-use Rattle.simulation_laws.specs.Stopping.{QuietIn, StopsAs, StopsIn, Simulates}
+use Rattle.simulation_laws.specs.Stopping.{QuietIn, counts_all, StopsAs, StopsIn, Simulates}
 use Rattle.simulation_laws.specs.laws.Sound.{HasCounts, counts_on, alike_of, code_same}
 use Rattle.simulation_laws.specs.laws.OneStep.{Goes, step_goes}
 use Rattle.simulation_laws.specs.laws.Paces.{both_from, sound, fits, agreeing, followed, follows}
@@ -37,7 +37,7 @@ why_of (Stopped why s) = why
 
 -- within its bound the output stops, until then shows what the input shows, and the stop is to the input's what stands
 -- there asks for
-record StopsSoon (site : Option Site) (f : Frame) (o t : State) (why : Stop) (last : State) (c : ℕ → ℕ) : Type 0 where
+record StopsSoon (site : Option Site) (f : Frame) (o t : State) (why : Stop) (last : State) (c : ℕ → ℕ → ℕ) : Type 0 where
   more : ℕ
   bounded : more ≤ step_bound f
   state : State
@@ -50,7 +50,7 @@ record StopsSoon (site : Option Site) (f : Frame) (o t : State) (why : Stop) (la
 
 module _ (b x : List ℕ) (f : Frame) (rel : IsCarried b x f) where
   -- at a site
-  site_stops : (site : Site) (o t last : State) (why : Stop) (c : ℕ → ℕ) → HasCounts f t.memory c → MeetsWithin f o.eip o t (Stopped why last) → StopsSoon (Some site) f o t why last c
+  site_stops : (site : Site) (o t last : State) (why : Stop) (c : ℕ → ℕ → ℕ) → HasCounts f t.memory c → MeetsWithin f o.eip o t (Stopped why last) → StopsSoon (Some site) f o t why last c
   site_stops site o t last why c has m =
       let h = m.comes.0 in
       record {
@@ -62,11 +62,11 @@ module _ (b x : List ℕ) (f : Frame) (rel : IsCarried b x f) where
         why_there = why;
         last_there = h.stopped;
         stops = h.stops;
-        alike = (refl, record { core = h.alike.core; descs = h.alike.descs; same = shows_of (is_added f) last h.stopped h.alike; counts = counts_on f o.eip t.memory h.stopped.memory c has m.comes.1 });
+        alike = (refl, record { core = h.alike.core; descs = h.alike.descs; same = shows_of (is_added f) last h.stopped h.alike; counts = counts_on f (counts_all o.eip) t.memory h.stopped.memory c has m.comes.1 });
       }
 
   -- where there is none
-  miss_stops : (o t last : State) (why : Stop) (c : ℕ → ℕ) → StatesBeside (is_added f) o t → step t ≡ Stopped (Trap FetchFault o.eip) t → StopsAs None f 0 o.eip why last (Trap FetchFault o.eip) t c → StopsSoon None f o t why last c
+  miss_stops : (o t last : State) (why : Stop) (c : ℕ → ℕ → ℕ) → StatesBeside (is_added f) o t → step t ≡ Stopped (Trap FetchFault o.eip) t → StopsAs None f 0 o.eip why last (Trap FetchFault o.eip) t c → StopsSoon None f o t why last c
   miss_stops o t last why c s st alike = record {
     more = 0;
     bounded = omega arith;
@@ -80,13 +80,13 @@ module _ (b x : List ℕ) (f : Frame) (rel : IsCarried b x f) where
   }
 
   -- and by what the input fetches
-  fetched_stops : (o t last : State) (why : Stop) (c : ℕ → ℕ) (r : Fetched) → HasCounts f t.memory c → StatesBeside (is_added f) o t → stepped o r ≡ Stopped why last → Goes f o t (Stopped why last) r → StopsSoon (site_found o.eip r) f o t why last c
+  fetched_stops : (o t last : State) (why : Stop) (c : ℕ → ℕ → ℕ) (r : Fetched) → HasCounts f t.memory c → StatesBeside (is_added f) o t → stepped o r ≡ Stopped why last → Goes f o t (Stopped why last) r → StopsSoon (site_found o.eip r) f o t why last c
   fetched_stops o t last why c Absent has s st h = miss_stops o t last why c s h (refl, refl, inl (ap why_of (sym st)))
   fetched_stops o t last why c (Found i n) has s st h = site_stops (record { at = o.eip; len = n; insn = i }) o t last why c has h
   fetched_stops o t last why c Unknown has s st h = miss_stops o t last why c s h (refl, refl, inr (ap why_of (sym st)))
 
   -- from agreeing states and a step of the input that is a stop and clear, the output stops so
-  step_stops : (o t last : State) (why : Stop) (c : ℕ → ℕ) → IsSound b o → Agree b x f o t c → IsMemory t.memory → IsClearStep b f o → step o ≡ Stopped why last → StopsSoon (site_at (code_in b) o.eip) f o t why last c
+  step_stops : (o t last : State) (why : Stop) (c : ℕ → ℕ → ℕ) → IsSound b o → Agree b x f o t c → IsMemory t.memory → IsClearStep b f o → step o ≡ Stopped why last → StopsSoon (site_at (code_in b) o.eip) f o t why last c
   unfolding step
   step_stops o t last why c own a cells clear st =
       let s = alike_of b x f o t c a in

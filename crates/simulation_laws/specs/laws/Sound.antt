@@ -1,5 +1,5 @@
 -- What holds between the input's state and the output's along both runs, and what keeps it.
-use Rattle.std.proofs.Common.{◌≡◌, ℕ, ◌+◌, ◌%◌, ◌^◌, ◌<◌, true, false, ◌==◌, if◌then◌else◌, List, length, Some, nat_le, nat_lt, sym, ap, ◌∙◌, ⊎_elim, pred, arith}
+use Rattle.std.proofs.Common.{◌≡◌, ℕ, ◌+◌, ◌%◌, ◌^◌, ◌<◌, Bool, true, false, if◌then◌else◌, List, length, Some, nat_le, nat_lt, sym, ap, ◌∙◌, ⊎_elim, pred, arith}
 use mathlib.Core.Path.{fun_ext}
 use Rattle.std.proofs.lemmas.Bool.{both_ways, cases_Bool, and_parts, and_from, le-leb, lt-ltb, ltb-true}
 use Rattle.mv_base.specs.Memory.{Memory, exec_byte, exec_byte_of, within}
@@ -12,26 +12,26 @@ use Rattle.step_laws.specs.laws.Cells.{exec_cell_byte}
 use Rattle.step_laws.specs.laws.Coding.{same_then, fixed_same}
 use Rattle.step_laws.specs.laws.Lasting.{run_fits, run_leaves}
 use Rattle.elf32_read.specs.Load.{load}
-use Rattle.elf32_write.specs.Frame.{Frame, frame_map, is_added, is_private, counted_at}
+use Rattle.elf32_write.specs.Frame.{Frame, frame_map, is_added, is_private, counted_at, kind_at}
 use Rattle.simulation_laws.specs.Code.{code_in}
 use Rattle.simulation_laws.specs.Relocated.{StandAt, IsOutput}
 use Rattle.simulation_laws.specs.Simulation.{Agree}
 use Rattle.simulation_laws.specs.Stepping.{area_of, counting_area, IsSound, Alike, CountsOne, counter_number}
 
--- each counter has its address's number, modulo 2^64
-abbrev pub HasCounts : Frame → Memory → (ℕ → ℕ) → Type 0
-HasCounts f m c = (k : ℕ) → k < f.counters → counter_number f m k ≡ c (counted_at f k) % 2 ^ 64
+-- each counter has its address's and kind's number, modulo 2^64
+abbrev pub HasCounts : Frame → Memory → (ℕ → ℕ → ℕ) → Type 0
+HasCounts f m c = (k : ℕ) → k < f.counters → counter_number f m k ≡ c (counted_at f k) (kind_at f k) % 2 ^ 64
 
--- so each has what comes of one more at an address
-pub counts_on : (f : Frame) (at : ℕ) (m u : Memory) (c : ℕ → ℕ) → HasCounts f m c → CountsOne f at m u → (k : ℕ) → k < f.counters → counter_number f u k ≡ (c (counted_at f k) + (if counted_at f k == at then 1 else 0)) % 2 ^ 64
-counts_on f at m u c has one k lt =
-    let d = if counted_at f k == at then 1 else 0 in
-    one k lt ∙ (ap (λ (n : ℕ). (n + d) % 2 ^ 64) (has k lt) ∙ sum (c (counted_at f k)) d)
+-- so each has what comes of one more at some of them
+pub counts_on : (f : Frame) (more : ℕ → ℕ → Bool) (m u : Memory) (c : ℕ → ℕ → ℕ) → HasCounts f m c → CountsOne f more m u → (k : ℕ) → k < f.counters → counter_number f u k ≡ (c (counted_at f k) (kind_at f k) + (if more (counted_at f k) (kind_at f k) then 1 else 0)) % 2 ^ 64
+counts_on f more m u c has one k lt =
+    let d = if more (counted_at f k) (kind_at f k) then 1 else 0 in
+    one k lt ∙ (ap (λ (n : ℕ). (n + d) % 2 ^ 64) (has k lt) ∙ sum (c (counted_at f k) (kind_at f k)) d)
   where
     sum : (n d : ℕ) → (n % 2 ^ 64 + d) % 2 ^ 64 ≡ (n + d) % 2 ^ 64
     sum n d = omega arith
 
-pub alike_of : (b x : List ℕ) (f : Frame) (o t : State) (c : ℕ → ℕ) → Agree b x f o t c → Alike x f o t
+pub alike_of : (b x : List ℕ) (f : Frame) (o t : State) (c : ℕ → ℕ → ℕ) → Agree b x f o t c → Alike x f o t
 alike_of b x f o t c a = record {
   beside = record { core = a.core; descs = a.descs; calls = a.calls; answers = a.answers; memory = record { outside = a.outside; free = a.free } };
   idle = a.idle;
@@ -40,7 +40,7 @@ alike_of b x f o t c a = record {
 }
 
 -- so states at places that belong together agree, where the counters have these numbers
-pub agree_of : (b x : List ℕ) (f : Frame) (o t : State) (c : ℕ → ℕ) → IsSound b o → Alike x f o t → t.eip ≡ frame_map f o.eip → HasCounts f t.memory c → Agree b x f o t c
+pub agree_of : (b x : List ℕ) (f : Frame) (o t : State) (c : ℕ → ℕ → ℕ) → IsSound b o → Alike x f o t → t.eip ≡ frame_map f o.eip → HasCounts f t.memory c → Agree b x f o t c
 agree_of b x f o t c own s place counts = record {
   core = s.beside.core;
   descs = s.beside.descs;
