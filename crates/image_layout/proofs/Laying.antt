@@ -5,7 +5,6 @@ use Rattle.mv_base.specs.declared.range.RunPlace.{RunPlace}
 use Rattle.elf32_read.specs.declared.run.Run.{Run}
 use Rattle.elf32_read.specs.Runs.{code_of}
 use Rattle.elf32_write.specs.declared.plan.Plan.{Plan}
-use Rattle.elf32_write.specs.declared.plan.Form.TheVariants.{Paged}
 use Rattle.elf32_write.specs.Format.{up}
 use Rattle.map_table.specs.Pairs.{firsts}
 use Rattle.map_table.specs.Paged.{table_bytes, table_size, Made, IsMade}
@@ -18,7 +17,8 @@ use Rattle.sequence_join.specs.Chains.{Chain}
 use Rattle.simulation_laws.specs.declared.anchors.Anchors.{Anchors}
 use Rattle.image_layout.specs.Layout.{stub_len, code_len, table_len, table_from, pairs_from, pairs, moved, run_places, anchors, code, plan}
 use Rattle.image_layout.specs.Parts.{parts, parts_len, entry}
-use Rattle.image_layout.specs.Pieces.{site_len, counted, code_lens, chain_code}
+use Rattle.counter_hooks.specs.Rules.{number_of}
+use Rattle.image_layout.specs.Pieces.{site_len, counted, listed, code_lens, chain_code}
 use Rattle.image_layout.specs.Sites.{AreBelow}
 use Rattle.image_layout.specs.laws.SiteFacts.{site_address}
 use Rattle.image_layout.specs.laws.Pairing.{firsts_pairs}
@@ -31,8 +31,8 @@ length-lens rule ss lens e = ap length e ∙ length-map ss (site_len rule)
 pub lens_below : (rule : Rule) (rs : List Run) (ss : List Site) (cs : List Chain) (lens : List ℕ) → AreLaid rs ss cs → lens ≡ code_lens rule ss → AreBelow (length lens) cs
 lens_below rule rs ss cs lens is e = subst (λ n. AreBelow n cs) (sym (length-lens rule ss lens e)) (chains_below rs ss cs is)
 
-pub lens_small : (rule : Rule) (rs : List Run) (ss : List Site) (cs : List Chain) (lens : List ℕ) → AreLaid rs ss cs → lens ≡ code_lens rule ss → parts_len lens (parts cs) ≤ 260 * 4194304
-lens_small rule rs ss cs lens is e = subst (λ (l : List ℕ). parts_len l (parts cs) ≤ 260 * 4194304) (sym e) (chains_small rule rs ss cs is)
+pub lens_small : (rule : Rule) (rs : List Run) (ss : List Site) (cs : List Chain) (lens : List ℕ) → AreLaid rs ss cs → lens ≡ code_lens rule ss → parts_len lens (parts cs) ≤ 84 * 16777216
+lens_small rule rs ss cs lens is e = subst (λ (l : List ℕ). parts_len l (parts cs) ≤ 84 * 16777216) (sym e) (chains_small rule rs ss cs is)
 
 pub lens_room : (rule : Rule) (cs : List Chain) (ss : List Site) (lens : List ℕ) → lens ≡ code_lens rule ss → parts_len lens (parts cs) ≡ parts_len (code_lens rule ss) (parts cs)
 lens_room rule cs ss lens e = ap (λ (l : List ℕ). parts_len l (parts cs)) e
@@ -53,44 +53,46 @@ code_is rule an move bytes runs ss cs front new e h =
 
 -- the parts of a plan, for these runs, sites and chains
 pub record HasParts (start : ℕ) (rule : Rule) (rs : List Run) (ss : List Site) (cs : List Chain) (p : Plan) : Type 0 where
-  pub form_is : p.form ≡ Paged
   pub code_is : p.code ≡ code rule (anchors rule rs ss cs p.base) (moved (pairs rule rs ss cs p.base)) (code_of rs) (run_places rule rs ss cs p.base) ss cs
   pub table_is : p.table ≡ table_bytes rs (pairs rule rs ss cs p.base) (table_from rule rs ss cs p.base)
-  pub counted_is : p.counted ≡ counted rule ss
+  pub counted_is : p.counted ≡ listed rule ss
   pub runs_is : p.runs ≡ run_places rule rs ss cs p.base
   pub entry_is : p.entry ≡ moved (pairs rule rs ss cs p.base) start
+  pub rule_is : p.rule ≡ number_of rule
+  pub edge_rule_is : p.edge_rule ≡ 0
 
 -- and as they are computed
 pub has_parts : (start : ℕ) (rule : Rule) (rs : List Run) (ss : List Site) (cs : List Chain) (p : Plan) (n room private : ℕ) (t : Made) (ps : List (ℕ × ℕ)) (there : List RunPlace)
     → n ≡ stub_len rs → room ≡ up (code_len rule rs ss cs) → ps ≡ pairs_from rule ss cs (p.base + n) → t ≡ record { runs = rs; pairs = ps; lo = p.base + room }
-    → there ≡ paged.places rs (p.base + room) → private ≡ up (table_size t.runs (firsts t.pairs) + 4 * length (counted rule ss))
-    → p.form ≡ Paged → p.code ≡ code rule (record { stub = p.base; private = p.base + room + private }) (moved t.pairs) (code_of rs) there ss cs
-    → p.table ≡ table_bytes t.runs t.pairs t.lo → p.counted ≡ counted rule ss → p.runs ≡ there → p.entry ≡ moved t.pairs start → HasParts start rule rs ss cs p
-has_parts start rule rs ss cs p n room private t ps there n_is room_is pairs_is t_is there_is private_is form_is code_is table_is counted_is runs_is entry_is =
+    → there ≡ paged.places rs (p.base + room) → private ≡ up (table_size t.runs (firsts t.pairs) + 8 * length (counted rule ss))
+    → p.code ≡ code rule (record { stub = p.base; private = p.base + room + private }) (moved t.pairs) (code_of rs) there ss cs
+    → p.table ≡ table_bytes t.runs t.pairs t.lo → p.counted ≡ listed rule ss → p.runs ≡ there → p.entry ≡ moved t.pairs start → p.rule ≡ number_of rule → p.edge_rule ≡ 0 → HasParts start rule rs ss cs p
+has_parts start rule rs ss cs p n room private t ps there n_is room_is pairs_is t_is there_is private_is code_is table_is counted_is runs_is entry_is rule_is edge_rule_is =
     let base = p.base in
     let runs_same : t.runs ≡ rs = ap (λ (m : Made). m.runs) t_is in
     let pairs_same : t.pairs ≡ pairs rule rs ss cs base = ap (λ (m : Made). m.pairs) t_is ∙ (pairs_is ∙ ap (λ m. pairs_from rule ss cs (base + m)) n_is) in
     let lo_same : t.lo ≡ table_from rule rs ss cs base = ap (λ (m : Made). m.lo) t_is ∙ ap (λ m. base + m) room_is in
     let firsts_same : firsts t.pairs ≡ map site_address ss = ap firsts pairs_same ∙ firsts_pairs (entry (code_lens rule ss) (base + stub_len rs) (parts cs)) 0 ss in
-    let private_same : private ≡ up (table_len rule rs ss) = private_is ∙ (λ i. up (table_size (runs_same i) (firsts_same i) + 4 * length (counted rule ss))) in
+    let private_same : private ≡ up (table_len rule rs ss) = private_is ∙ (λ i. up (table_size (runs_same i) (firsts_same i) + 8 * length (counted rule ss))) in
     let there_same : there ≡ run_places rule rs ss cs base = there_is ∙ ap (λ m. paged.places rs (base + m)) room_is in
     record {
-      form_is = form_is;
       code_is = code_is ∙ (λ i. code rule (record { stub = base; private = base + room_is i + private_same i }) (moved (pairs_same i)) (code_of rs) (there_same i) ss cs);
       table_is = table_is ∙ (λ i. table_bytes (runs_same i) (pairs_same i) (lo_same i));
       counted_is = counted_is;
       runs_is = runs_is ∙ there_same;
       entry_is = entry_is ∙ ap (λ (l : List (ℕ × ℕ)). moved l start) pairs_same;
+      rule_is = rule_is;
+      edge_rule_is = edge_rule_is;
     }
 
 -- the plan field by field
 pub plan_is : (start : ℕ) (rule : Rule) (rs : List Run) (ss : List Site) (cs : List Chain) (p : Plan) → HasParts start rule rs ss cs p → p ≡ plan start rule rs ss cs p.base
 unfolding plan
 plan_is start rule rs ss cs p is =
-    λ i. record { form = is.form_is i; base = p.base; code = is.code_is i; table = is.table_is i; counted = is.counted_is i; runs = is.runs_is i; entry = is.entry_is i }
+    λ i. record { base = p.base; code = is.code_is i; table = is.table_is i; counted = is.counted_is i; runs = is.runs_is i; entry = is.entry_is i; rule = is.rule_is i; edge_rule = is.edge_rule_is i }
 
--- the sites that a plan counts
-pub counted_is : (start : ℕ) (rule : Rule) (rs : List Run) (ss : List Site) (cs : List Chain) (p : Plan) → p ≡ plan start rule rs ss cs p.base → p.counted ≡ counted rule ss
+-- the counters of a plan
+pub counted_is : (start : ℕ) (rule : Rule) (rs : List Run) (ss : List Site) (cs : List Chain) (p : Plan) → p ≡ plan start rule rs ss cs p.base → p.counted ≡ listed rule ss
 unfolding plan
 counted_is start rule rs ss cs p e = ap (λ (q : Plan). q.counted) e
 

@@ -8,11 +8,11 @@ use Rattle.counter_hooks.specs.Rules.{picked}
 use Rattle.superset.specs.declared.site.Site.{Site}
 use Rattle.sequence_join.specs.Chains.{Chain}
 use Rattle.image_layout.specs.Parts.{Part, Piece, join_parts, link_parts, chain_parts, parts, parts_len, placed, place_or}
-use Rattle.image_layout.specs.Pieces.{counted, site_len, code_lens}
+use Rattle.image_layout.specs.Pieces.{listed, site_len, code_lens}
 use Rattle.image_layout.specs.Layout.{pairs_by}
 use Rattle.image_layout.specs.Sites.{LinksBelow, AreBelow}
 use Rattle.image_layout.specs.laws.SiteFacts.{site_address}
-use Rattle.image_layout.specs.laws.Counters.{counted_more}
+use Rattle.image_layout.specs.laws.Counters.{listed_more}
 use Rattle.image_layout.specs.laws.Placing.{parts_len-append, placed-append, place_or-append}
 
 -- ---- lengths
@@ -135,11 +135,11 @@ ranks_step f now new i n len is h p k lt =
           ap (λ (xs : List ℕ). slice_index xs k) p ∙ (ap (slice_index (now ++ n ∷ [])) place ∙ (get_or-append-add now (n ∷ []) 0 0 ∙ (is ∙ ap f (sym last))))
     ]
 
-pub counted_step : (rule : Rule) (ss : List Site) (k : ℕ) (d : Site) (t : Bool) (now new : List ℕ) → k < length ss → t ≡ picked rule (get_or ss k d) → now ≡ counted rule (take k ss) → new ≡ now ++ cond t ((get_or ss k d).at ∷ []) [] → new ≡ counted rule (take (k + 1) ss)
+pub counted_step : (rule : Rule) (ss : List Site) (k : ℕ) (d : Site) (t : Bool) (now new : List (ℕ × ℕ)) → k < length ss → t ≡ picked rule (get_or ss k d) → now ≡ listed rule (take k ss) → new ≡ now ++ cond t (((get_or ss k d).at, 0) ∷ []) [] → new ≡ listed rule (take (k + 1) ss)
 counted_step rule ss k d t now new lt is h p =
-    p ∙ (ap (λ (l : List ℕ). l ++ cond t ((get_or ss k d).at ∷ []) []) h
-    ∙ (ap (λ (u : Bool). counted rule (take k ss) ++ cond u ((get_or ss k d).at ∷ []) []) is
-    ∙ sym (counted_more rule ss k d lt)))
+    p ∙ (ap (λ (l : List (ℕ × ℕ)). l ++ cond t (((get_or ss k d).at, 0) ∷ []) []) h
+    ∙ (ap (λ (u : Bool). listed rule (take k ss) ++ cond u (((get_or ss k d).at, 0) ∷ []) []) is
+    ∙ sym (listed_more rule ss k d lt)))
 
 -- a list that is written over whole
 pub whole_slice : (old new : List ℕ) (n : ℕ) → n ≡ length old → length new ≡ length old → take n (new ++ drop (length new) old) ≡ new

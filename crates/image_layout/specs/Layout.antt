@@ -7,19 +7,19 @@ use Rattle.elf32_read.specs.declared.run.Run.{Run}
 use Rattle.elf32_read.specs.Runs.{code_of}
 use Rattle.elf32_write.specs.Format.{up, private_len}
 use Rattle.elf32_write.specs.declared.plan.Plan.{Plan}
-use Rattle.elf32_write.specs.declared.plan.Form.TheVariants.{Paged}
 use Rattle.map_table.specs.Pairs.{entry_in}
 use Rattle.map_table.specs.Paged.{table_bytes, table_size, places}
 use Rattle.lookup_stub.specs.Stub.{stub, stub_size}
 use Rattle.counter_hooks.specs.declared.rules.Rule.{Rule}
+use Rattle.counter_hooks.specs.Rules.{number_of}
 use Rattle.superset.specs.declared.site.Site.{Site}
 use Rattle.sequence_join.specs.Chains.{Chain}
 use Rattle.simulation_laws.specs.declared.anchors.Anchors.{Anchors}
 use Rattle.image_layout.specs.Parts.{parts, parts_len, entry}
-use Rattle.image_layout.specs.Pieces.{counted, code_lens, chain_code}
+use Rattle.image_layout.specs.Pieces.{counted, listed, code_lens, chain_code}
 
 -- the length of the stub, of the code, which is the stub and the chains behind it, and of the table with the list of
--- counted sites
+-- counters
 abbrev pub stub_len : List Run → ℕ
 stub_len rs = stub_size 2 (length rs)
 
@@ -27,7 +27,7 @@ abbrev pub code_len : Rule → List Run → List Site → List Chain → ℕ
 code_len rule rs ss cs = stub_len rs + parts_len (code_lens rule ss) (parts cs)
 
 abbrev pub table_len : Rule → List Run → List Site → ℕ
-table_len rule rs ss = table_size rs (map (λ s. s.at) ss) + 4 * length (counted rule ss)
+table_len rule rs ss = table_size rs (map (λ s. s.at) ss) + 8 * length (counted rule ss)
 
 -- the size of the added block, a multiple of 4,096
 unfoldable pub size : Rule → List Run → List Site → List Chain → ℕ
@@ -73,11 +73,12 @@ code rule anchors move bytes runs ss cs =
 -- what is added to a file with this entry, for a block at this base
 unfoldable pub plan : ℕ → Rule → List Run → List Site → List Chain → ℕ → Plan
 plan start rule rs ss cs base = record {
-  form = Paged;
   base = base;
   code = code rule (anchors rule rs ss cs base) (moved (pairs rule rs ss cs base)) (code_of rs) (run_places rule rs ss cs base) ss cs;
   table = table_bytes rs (pairs rule rs ss cs base) (table_from rule rs ss cs base);
-  counted = counted rule ss;
+  counted = listed rule ss;
   runs = run_places rule rs ss cs base;
   entry = moved (pairs rule rs ss cs base) start;
+  rule = number_of rule;
+  edge_rule = 0;
 }

@@ -64,13 +64,20 @@ is_own Return = false
 abbrev pub counted : Rule → List Site → List ℕ
 counted rule ss = map (λ s. s.at) (filter (picked rule) ss)
 
--- how many of them stand before the site of index k
+-- the counter of all executions at an address, and those of these sites, as the list has them
+abbrev pub all_at : ℕ → ℕ × ℕ
+all_at a = (a, 0)
+
+abbrev pub listed : Rule → List Site → List (ℕ × ℕ)
+listed rule ss = map all_at (counted rule ss)
+
+-- how many of these sites stand before the site of index k
 abbrev pub rank : Rule → List Site → ℕ → ℕ
 rank rule ss k = length (counted rule (take k ss))
 
 -- where the counter of an address is: the counters stand behind the first 64 bytes of the private area
 abbrev pub counters : Rule → Anchors → List Site → ℕ → Option ℕ
-counters rule anchors ss = counter_in (anchors.private + 64) (counted rule ss)
+counters rule anchors ss = counter_in (anchors.private + 64) (listed rule ss)
 
 -- how many bytes a site's counter has
 abbrev pub counter_len : Bool → ℕ

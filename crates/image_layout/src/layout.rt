@@ -4,9 +4,9 @@ ghost use Rattle.std.specs.Prelude.{◌≡◌, ◌+◌, ◌*◌, ◌^◌, ◌<�
 ghost use Rattle.std.specs.List.{AllByRecursion};
 ghost use Rattle.elf32_read.specs.Runs.{code_of, AreApart};
 ghost use Rattle.elf32_write.specs.Format.{up as up_of};
+ghost use Rattle.elf32_write.specs.Frame.{AscendPairs};
 ghost use Rattle.map_table.specs.Paged.{places as places_of, AreRuns};
 ghost use Rattle.lookup_stub.specs.Stub.{stub_size};
-ghost use Rattle.counter_hooks.specs.Rules.{Ascend};
 ghost use Rattle.superset.specs.Sites.{sites_in};
 ghost use Rattle.sequence_join.specs.Chains.{order, EachOnce, IsLinked};
 ghost use Rattle.image_layout.specs.Fit.{first_fit as first_fit_of};
@@ -22,9 +22,9 @@ ghost use Rattle.image_layout.specs.Sites.{AreShort, AreWhole, AreBelow};
 use crate::code::put_chains;
 use crate::places::{Measured, chains_len, entries, measure, pairs};
 use crate::room::first_fit;
-use counter_hooks::{Hooks, Question};
+use counter_hooks::{Hooks, Question, rule_number};
 use elf32_read::{Image, Run};
-use elf32_write::{Form, Plan, RunPlaces};
+use elf32_write::{Plan, RunPlaces};
 use lookup_stub::{stub, stub_len};
 use map_table::{Table, table_len};
 use mv_base::{Bytes, NoMemory, RunPlace};
@@ -40,8 +40,8 @@ const PRIVATE_LEN: u64 = 64;
 /// How many bytes a counter has.
 const COUNTER_ROOM: u64 = 8;
 
-/// How many bytes a counted site has in the list behind the table.
-const LISTED_LEN: u64 = 4;
+/// How many bytes a counter has in the list behind the table: its address and its kind.
+const LISTED_LEN: u64 = 8;
 
 /// Why a file isn't laid out: no place has room for its block, which has this many bytes, or want of memory.
 #[derive(Debug, Drop, Error)]
@@ -64,7 +64,7 @@ impl From<NoMemory> for LayFault {
 }
 
 /// What is added to a file: the block at the lowest place that has room, with the stub, the chains behind it, the table of
-/// form 2, the list of the sites that the hooks count, and the private area with their counters. `admit` takes the image,
+/// form 2, the list of the sites that the hooks count, each with kind 0, and the private area with their counters. `admit` takes the image,
 /// and the runs, sites and chains are those of its file. It asks the hooks twice a site: once for lengths, once for
 /// bytes. The work is linear in the sites; an address is looked up in the table by a step for each run.
 ///
@@ -87,7 +87,7 @@ pub fn lay<F: Question>(
     ensures laid { LaysOut image.now hooks.now runs.now sites.now chains.now result }
     ensures in_place { IfOk result (λ plan.
         HasPieces hooks.now runs.now sites.now chains.now plan) }
-    ensures ascends { IfOk result (λ plan. Ascend plan.counted) }
+    ensures ascends { IfOk result (λ plan. AscendPairs plan.counted) }
 {
     let measured = measure(alloc, sites, hooks)?;
     let chains_len = chains_len(chains, measured.lens.as_slice());
@@ -223,12 +223,13 @@ fn lay_at<F: Question>(
     )?;
     let entry = moved(&table, image.entry);
     Ok(Plan {
-        form: Form::Paged,
         base,
         code: Bytes::new(code),
         table: table.into_bytes(),
         counted,
         runs: RunPlaces::new(run_places),
         entry,
+        rule: rule_number(hooks.rule()),
+        edge_rule: 0,
     })
 }

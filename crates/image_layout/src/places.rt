@@ -11,6 +11,7 @@ ghost use Rattle.image_layout.specs.Sites.{AreShort, IsShort, AreBelow};
 use branch_lengthen::near_len;
 use call_rewrite::far_len;
 use counter_hooks::{Hooks, Question, counter_len};
+use elf32_write::Pairs;
 use mv_base::{Addrs, Bytes, NoMemory};
 use sequence_join::{Chain, ChainList};
 use std::alloc::Global;
@@ -21,13 +22,13 @@ use x86_insn::Flow;
 const JOIN_LEN: u32 = 5;
 
 /// What is known of sites before they have places: their addresses, how many bytes the code of each has, how many counted
-/// sites stand before each, and the addresses of the counted sites.
+/// sites stand before each, and the counters of these, which are of kind 0.
 #[derive(Drop)]
 pub struct Measured {
     pub addresses: Addrs,
     pub lens: Bytes,
     pub ranks: Addrs,
-    pub counted: Addrs,
+    pub counted: Pairs,
 }
 
 /// What is known of sites before they have places. It asks the hooks once a site.
@@ -54,14 +55,14 @@ pub fn measure<F: Question>(
         lens.push(site_len(site, is_counted))?;
         ranks.push(counted.len() as u32)?;
         if is_counted {
-            counted.push(site.at)?;
+            counted.push((site.at, 0))?;
         }
     }
     Ok(Measured {
         addresses: Addrs::new(addresses),
         lens: Bytes::new(lens),
         ranks: Addrs::new(ranks),
-        counted: Addrs::new(counted),
+        counted: Pairs::new(counted),
     })
 }
 

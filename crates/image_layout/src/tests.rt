@@ -78,7 +78,9 @@ fn two_chains_stand_behind_the_stub(rt: HostRuntime) -> Result<(), Fail> {
         Ok(plan) => {
             assert_eq!(rt; plan.base, 0x0010_0000);
             assert_eq!(rt; plan.entry, 0x0010_005B);
-            assert!(rt; plan.counted.as_slice() == &[0x0804_8054][..]);
+            assert!(rt; plan.counted.as_slice() == &[(0x0804_8054, 0)][..]);
+            assert_eq!(rt; plan.rule, 4);
+            assert_eq!(rt; plan.edge_rule, 0);
             assert_eq!(rt; plan.code.as_slice().get(91..), Some(CHAINS.as_slice()));
         }
         Err(_) => assert!(rt; false),

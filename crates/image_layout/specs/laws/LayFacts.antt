@@ -46,7 +46,7 @@ module _ (rs : List Run) (ss : List Site) (cs : List Chain) (is : AreLaid rs ss 
   pub below_low : (k : ℕ) (s : Site) → slice_get ss k ≡ Some s → k < length ss
   below_low k s e = index_low ss k s e
 
-  pub count : length ss ≤ 4194304
+  pub count : length ss ≤ 16777216
   count = omega (arith, sites_count rs ss is.sites, is.runs.small)
 
   pub ascend : Ascend 0 (map site_address ss)
@@ -60,16 +60,16 @@ module _ (rule : Rule) (rs : List Run) (ss : List Site) (cs : List Chain) (is : 
   abbrev lens : List ℕ
   lens = code_lens rule ss
 
-  pub counted_few : length (counted rule ss) ≤ 4194304
+  pub counted_few : length (counted rule ss) ≤ 16777216
   counted_few = omega (arith, counted_most rule ss, count rs ss cs is)
 
   pub counters_are : (an : Anchors) → AreCounted rule an (counters rule an ss) ss
   counters_are an k s e = counter_sized rule an 0 ss k s (ascend rs ss cs is) e
 
-  pub chains_small : parts_len lens (parts cs) ≤ 260 * 4194304
+  -- the chains have fewer than 2^31 bytes
+  pub chains_small : parts_len lens (parts cs) ≤ 84 * 16777216
   chains_small =
-      let most : (k : ℕ) → slice_index lens k ≤ 255 = λ k. omega (arith, lens_most rule ss (are_short rs ss is.sites) k) in
-      omega (arith, parts_most ss lens cs is.linked most, length-once (length ss) (order cs) is.once, count rs ss cs is)
+      omega (arith, parts_most ss lens cs is.linked (lens_most rule ss (are_short rs ss is.sites)), length-once (length ss) (order cs) is.once, count rs ss cs is)
 
   -- a place in the chains
   pub record HasEntry (first k : ℕ) : Type 0 where

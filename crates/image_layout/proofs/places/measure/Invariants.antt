@@ -1,6 +1,6 @@
 use Rattle.std.proofs.Common.{◌≡◌, ◌<◌, ℕ, length, map, take}
 use Rattle.std.specs.Prelude.{slice_index}
-use Rattle.image_layout.specs.Pieces.{counted, rank, code_lens}
+use Rattle.image_layout.specs.Pieces.{listed, rank, code_lens}
 use Rattle.image_layout.specs.laws.SiteFacts.{site_address}
 use Rattle.image_layout.proofs.places.measure.Given as goal
 
@@ -10,5 +10,5 @@ invariant-loop-site g l = record {
   lens : l.lens.items ≡ code_lens l.hooks (take l.site-index l.sites);
   many : length l.ranks.items ≡ l.site-index;
   ranks : (k : ℕ) → k < l.site-index → slice_index l.ranks.items k ≡ rank l.hooks l.sites k;
-  counted : l.counted.items ≡ counted l.hooks (take l.site-index l.sites);
+  counted : l.counted.items ≡ listed l.hooks (take l.site-index l.sites);
 }
