@@ -99,30 +99,33 @@ pub record IsOutputOf (b : List ℕ) (rule : Rule) (x : List ℕ) : Type 0 where
   pub input : IsInput b rule base
   pub same : output_at b rule base ≡ x
 
-output_by : (b : List ℕ) (rule : Rule) (x : List ℕ) (o : Option ℕ) → refusal b ≡ None → AreBytes b → AreBytes x → length b ≤ 67108864 → base_of b rule ≡ o → option_map (output_at b rule) o ≡ Some x → IsOutputOf b rule x
+output_by : (b : List ℕ) (rule : Rule) (x : List ℕ) (o : Option ℕ) → refusal b ≡ None → AreBytes b → length b ≤ 268435456 → base_of b rule ≡ o → option_map (output_at b rule) o ≡ Some x → IsOutputOf b rule x
 unfolding refusal
-output_by b rule x None whole bytes there small at e = absurd (none-some x e)
-output_by b rule x (Some base) whole bytes there small at e =
+output_by b rule x None whole bytes small at e = absurd (none-some x e)
+output_by b rule x (Some base) whole bytes small at e =
     let both = or_else-none (load_refusal b) (limit_fault b) whole in
     let same = same_Some (output_at b rule base) x e in
-    record { base = base; input = image_input b rule base both.0 both.1 bytes (subst (λ (l : List ℕ). AreBytes l) (sym same) there) small at; same = same }
+    record { base = base; input = image_input b rule base both.0 both.1 bytes small at; same = same }
 
-output_of : (b : List ℕ) (rule : Rule) (x : List ℕ) → refusal b ≡ None → AreBytes b → AreBytes x → length b ≤ 67108864 → output b rule ≡ Some x → IsOutputOf b rule x
+pub output_of : (b : List ℕ) (rule : Rule) (x : List ℕ) → refusal b ≡ None → AreBytes b → length b ≤ 268435456 → output b rule ≡ Some x → IsOutputOf b rule x
 unfolding output
-output_of b rule x whole bytes there small e = output_by b rule x (base_of b rule) whole bytes there small refl e
+output_of b rule x whole bytes small e = output_by b rule x (base_of b rule) whole bytes small refl e
 
 -- each output that a file is rewritten to simulates it
-pub all_simulate : (b : List ℕ) (rule : Rule) (r : Result Rewritten RewriteFault) → AreBytes b → IfOk r (λ x. AreBytes x.bytes) → length b ≤ 67108864 → IsRewritten b rule r → IfOk r (λ x. Simulates b x.bytes)
+pub all_simulate : (b : List ℕ) (rule : Rule) (r : Result Rewritten RewriteFault) → AreBytes b → IfOk r (λ x. AreBytes x.bytes) → length b ≤ 268435456 → IsRewritten b rule r → IfOk r (λ x. Simulates b x.bytes)
 all_simulate b rule (Ok r) bytes there small is =
-    let o = output_of b rule r.bytes is.whole bytes there small is.bytes in
-    subst (Simulates b) o.same (simulated b rule o.base o.input)
+    let o = output_of b rule r.bytes is.whole bytes small is.bytes in
+    subst (Simulates b) o.same (simulated b rule o.base o.input (subst (λ (l : List ℕ). AreBytes l) (sym o.same) there))
 all_simulate b rule (Err e) bytes there small is = tt
 
 -- and is what is written for it
-pub all_written : (b : List ℕ) (rule : Rule) (r : Result Rewritten RewriteFault) → AreBytes b → IfOk r (λ x. AreBytes x.bytes) → length b ≤ 67108864 → IsRewritten b rule r → IfOk r (λ x. (f : Frame) × IsWrittenFor b rule x.bytes f)
+pub all_written : (b : List ℕ) (rule : Rule) (r : Result Rewritten RewriteFault) → AreBytes b → IfOk r (λ x. AreBytes x.bytes) → length b ≤ 268435456 → IsRewritten b rule r → IfOk r (λ x. (f : Frame) × IsWrittenFor b rule x.bytes f)
 all_written b rule (Ok r) bytes there small is =
-    let o = output_of b rule r.bytes is.whole bytes there small is.bytes in
-    (frame_is b rule o.base, subst (λ (x : List ℕ). IsWrittenFor b rule x (frame_is b rule o.base)) o.same (written_for b rule o.base o.input))
+    let o = output_of b rule r.bytes is.whole bytes small is.bytes in
+    (
+      frame_is b rule o.base,
+      subst (λ (x : List ℕ). IsWrittenFor b rule x (frame_is b rule o.base)) o.same (written_for b rule o.base o.input (subst (λ (l : List ℕ). AreBytes l) (sym o.same) there)),
+    )
 all_written b rule (Err e) bytes there small is = tt
 
 -- ---- from the image's runs, sites and chains to the file's

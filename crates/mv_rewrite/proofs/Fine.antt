@@ -173,14 +173,14 @@ pub kept_maps : (h : Phdr) → maps (kept_header h) ≡ maps h
 kept_maps h = ap (λ t. t && ltb 0 (kept_header h).memsz) (kept_load h) ∙ ap (λ n. is_load h && ltb 0 n) (is_kept h).memsz
 
 -- a moved offset, where the bytes lie in a file of at most 64 MiB
-pub moved_offset : (o n : ℕ) → o + n ≤ 67108864 → (o + 0x1000) % 2 ^ 32 ≡ o + 0x1000
+pub moved_offset : (o n : ℕ) → o + n ≤ 268435456 → (o + 0x1000) % 2 ^ 32 ≡ o + 0x1000
 moved_offset o n le = omega arith
 
 moved_mod : (o : ℕ) → (o + 0x1000) % 2 ^ 32 % 4096 ≡ o % 4096
 moved_mod o = omega arith
 
 -- a header without a fault has none in the output, which is longer by the head
-pub kept_fine : (len len' free : ℕ) (h : Phdr) → len ≤ 67108864 → len + 0x1000 ≤ len' → IsFine len free h → IsFine len' free (kept_header h)
+pub kept_fine : (len len' free : ℕ) (h : Phdr) → len ≤ 268435456 → len + 0x1000 ≤ len' → IsFine len free h → IsFine len' free (kept_header h)
 kept_fine len len' free h small long is =
     let k = is_kept h in
     record {

@@ -110,7 +110,7 @@ without-first None d = refl
 without-first (Some c) d = refl
 
 -- a header's cell in the output is its cell in the input, no longer executable
-kept_cell : (b x : List ℕ) (h : Phdr) (a free : ℕ) → Stands x 0x1000 b → length b ≤ 67108864 → IsFine (length b) free h → header_cell x (kept_header h) a ≡ without_exec (header_cell b h a)
+kept_cell : (b x : List ℕ) (h : Phdr) (a free : ℕ) → Stands x 0x1000 b → length b ≤ 268435456 → IsFine (length b) free h → header_cell x (kept_header h) a ≡ without_exec (header_cell b h a)
 kept_cell b x h a free stands small fine =
     let k = is_kept h in
     elim (cases_Bool (is_load h)) [
@@ -140,7 +140,7 @@ kept_cell b x h a free stands small fine =
           ]
     ]
 
-pub kept_cells : (b x : List ℕ) (free i : ℕ) (hs : List Phdr) (a : ℕ) → Stands x 0x1000 b → length b ≤ 67108864 → headers_fault (length b) free i hs ≡ None → cells_of x (map kept_header hs) a ≡ without_exec (cells_of b hs a)
+pub kept_cells : (b x : List ℕ) (free i : ℕ) (hs : List Phdr) (a : ℕ) → Stands x 0x1000 b → length b ≤ 268435456 → headers_fault (length b) free i hs ≡ None → cells_of x (map kept_header hs) a ≡ without_exec (cells_of b hs a)
 kept_cells b x free i [] a stands small e = refl
 kept_cells b x free i (h ∷ hs) a stands small e =
     let q = fine_parts (length b) free i h hs e in

@@ -108,7 +108,7 @@ kept_free free h =
     ∙ ap (λ n. cond (maps h) n free) (omega (arith, k.vaddr, k.memsz))
 
 -- the headers of the input are fine in the output, at other numbers and with lower free pages
-kept_all : (len len' free free' i j : ℕ) (hs : List Phdr) → len ≤ 67108864 → len + 0x1000 ≤ len' → free' ≤ free → headers_fault len free i hs ≡ None → headers_fault len' free' j (map kept_header hs) ≡ None
+kept_all : (len len' free free' i j : ℕ) (hs : List Phdr) → len ≤ 268435456 → len + 0x1000 ≤ len' → free' ≤ free → headers_fault len free i hs ≡ None → headers_fault len' free' j (map kept_header hs) ≡ None
 unfolding headers_fault
 kept_all len len' free free' i j [] small long le e = refl
 kept_all len len' free free' i j (h ∷ hs) small long le e =
@@ -124,7 +124,7 @@ kept_all len len' free free' i j (h ∷ hs) small long le e =
     (kept_all len len' (free_after free h) (free_after free' (kept_header h)) (i + 1) (j + 1) hs small long next q.1)
 
 -- the same, where headers from one on lie above the block
-kept_above : (len len' free free' i j : ℕ) (h : Phdr) (hs : List Phdr) → len ≤ 67108864 → len + 0x1000 ≤ len' → maps h ≡ true → free' ≤ h.vaddr / 4096 → headers_fault len free i (h ∷ hs) ≡ None → headers_fault len' free' j (map kept_header (h ∷ hs)) ≡ None
+kept_above : (len len' free free' i j : ℕ) (h : Phdr) (hs : List Phdr) → len ≤ 268435456 → len + 0x1000 ≤ len' → maps h ≡ true → free' ≤ h.vaddr / 4096 → headers_fault len free i (h ∷ hs) ≡ None → headers_fault len' free' j (map kept_header (h ∷ hs)) ≡ None
 kept_above len len' free free' i j h hs small long m le e =
     let q = fine_parts len free i h hs e in
     let fine = fine_more len len free free' h (omega arith) (λ t. le) q.0 in
@@ -134,7 +134,7 @@ kept_above len len' free free' i j h hs small long m le e =
     fine_join len' free' j (kept_header h) (map kept_header hs) (kept_fine len len' free' h small long fine)
     (kept_all len len' (free_after free h) (free_after free' (kept_header h)) (i + 1) (j + 1) hs small long next q.1)
 
-pub fine_output : (len len' free free' i j : ℕ) (k : Block) (hs : List Phdr) → len ≤ 67108864 → len + 0x1000 ≤ len' → IsBlock len' k → free' ≤ free → free' ≤ k.page → AreApart k hs → headers_fault len free i hs ≡ None
+pub fine_output : (len len' free free' i j : ℕ) (k : Block) (hs : List Phdr) → len ≤ 268435456 → len + 0x1000 ≤ len' → IsBlock len' k → free' ≤ free → free' ≤ k.page → AreApart k hs → headers_fault len free i hs ≡ None
     → headers_fault len' free' j (with_added k.base (block_headers k) hs) ≡ None
 unfolding with_added headers_fault
 fine_output len len' free free' i j k [] small long is le low apart e = fine_block len' free' k is low j [] (λ f n _. refl)

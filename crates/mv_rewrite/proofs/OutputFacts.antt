@@ -2,6 +2,7 @@
 use Rattle.std.proofs.Common.{◌≡◌, ℕ, ◌+◌, ◌<◌, true, false, List, length, Option, Some, None, refl, sym, ap, ◌∙◌, subst, arith}
 use mathlib.Core.Path.{fun_ext}
 use Rattle.std.specs.Prelude.{slice_index}
+use Rattle.mv_base.specs.Bytes.{AreBytes}
 use Rattle.mv_base.specs.Memory.{within}
 use Rattle.elf32_read.specs.Fields.{headers}
 use Rattle.elf32_read.specs.Load.{load}
@@ -10,7 +11,7 @@ use Rattle.elf32_write.specs.Within.{within_parts}
 use Rattle.elf32_write.specs.Written.{up-le}
 use Rattle.counter_hooks.specs.declared.rules.Rule.{Rule}
 use Rattle.elf32_write.specs.File.{code_place, with_added}
-use Rattle.elf32_write.specs.Frame.{frame_input, frame_code, frame_table, frame_entry, frame_map, is_added, is_private}
+use Rattle.elf32_write.specs.Frame.{frame_code, frame_table, frame_entry, frame_map, is_added, is_private}
 use Rattle.elf32_read.specs.Runs.{runs_of, code_of}
 use Rattle.map_table.specs.Pairs.{entry_in}
 use Rattle.superset.specs.declared.site.Site.{Site}
@@ -26,7 +27,7 @@ use Rattle.mv_rewrite.proofs.NewHeaders.{Block, code_of_block, table_of_block, p
 use Rattle.mv_rewrite.proofs.NewCells.{within_is, header_cell, cells_of, loads, cell_outside, three, InBlock, output_in, private_cell}
 use Rattle.mv_rewrite.proofs.Planned.{private_size, length-code, length-table_of, size_is, IsInput, block, wrote, is_block, headers_apart, output_headers}
 use Rattle.elf32_write.specs.ReadBack.{taken}
-use Rattle.mv_rewrite.proofs.Recorded.{frame_is, table_there, counted_there}
+use Rattle.mv_rewrite.proofs.Recorded.{frame_is, table_there, counted_there, input_there}
 use Rattle.mv_rewrite.proofs.Relocating.{table_words, is_placed, relocated}
 
 -- ---- the block's cells
@@ -45,9 +46,6 @@ module _ (b : List ℕ) (rule : Rule) (base : ℕ) (is : IsInput b rule base) wh
   x = output_at b rule base
 
   -- the parts of the file
-  input_there : frame_input (frame_is b rule base) ≡ b
-  input_there = taken x b 0x1000 (length b) refl (wrote b rule base is).input_stands
-
   code_there : frame_code (frame_is b rule base) ≡ (plan_at b rule base).code
   code_there = taken x (plan_at b rule base).code (code_place (length b)) (code_len b rule) (length-code b rule base is.laid) (wrote b rule base is).code_stands
 
@@ -95,17 +93,20 @@ module _ (b : List ℕ) (rule : Rule) (base : ℕ) (is : IsInput b rule base) wh
       let q = within_parts (base + up (code_len b rule) + up (table_len b rule)) (private_size b rule) a e in
       added a (record { from = omega (arith, q.0); below = omega (arith, q.1, up-le (private_size b rule)) }) ∙ private_cell x (block b rule base is) a e
 
-  pub written_for : IsWrittenFor b rule x (frame_is b rule base)
-  written_for =
-      let r = relocated b rule base is in
+  pub written_for : AreBytes x → IsWrittenFor b rule x (frame_is b rule base)
+  written_for there =
+      let r = relocated b rule base is there in
       record {
         admitted = r.output.admitted;
         framed = r.output.framed;
-        input_is = input_there;
+        input_is = input_there b rule base is;
         base = is.base_is;
         size_is = sym (size_is b rule base);
         counted_are = counted_there b rule base is;
         ascends = r.ascends;
+        version = refl;
+        rule_is = refl;
+        edge_rule_is = refl;
         form = refl;
         runs = refl;
         code_is = code_there ∙ code_is;

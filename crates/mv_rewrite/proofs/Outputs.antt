@@ -14,14 +14,13 @@ use Rattle.mv_rewrite.proofs.Recorded.{frame_is}
 use Rattle.mv_rewrite.proofs.Relocating.{relocated}
 use Rattle.simulation_laws.specs.laws.Simulating.{relocated_simulates}
 
-pub simulated : (b : List ℕ) (rule : Rule) (base : ℕ) → IsInput b rule base → Simulates b (output_at b rule base)
-simulated b rule base is = relocated_simulates b (output_at b rule base) (frame_is b rule base) (relocated b rule base is)
+pub simulated : (b : List ℕ) (rule : Rule) (base : ℕ) → IsInput b rule base → AreBytes (output_at b rule base) → Simulates b (output_at b rule base)
+simulated b rule base is there = relocated_simulates b (output_at b rule base) (frame_is b rule base) (relocated b rule base is there)
 
 -- a file with no fault, within the limits, is an input for the block where it lies
-pub image_input : (b : List ℕ) (rule : Rule) (base : ℕ) → load_refusal b ≡ None → limit_fault b ≡ None → AreBytes b → AreBytes (output_at b rule base) → length b ≤ 67108864 → base_of b rule ≡ Some base → IsInput b rule base
-image_input b rule base whole admitted bytes there small at = record {
+pub image_input : (b : List ℕ) (rule : Rule) (base : ℕ) → load_refusal b ≡ None → limit_fault b ≡ None → AreBytes b → length b ≤ 268435456 → base_of b rule ≡ Some base → IsInput b rule base
+image_input b rule base whole admitted bytes small at = record {
   bytes = bytes;
-  bytes_there = there;
   small = small;
   loads = whole;
   few_headers = header_count-admitted b admitted;

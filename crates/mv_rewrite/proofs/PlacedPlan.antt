@@ -1,10 +1,11 @@
 -- From where the plan's bytes are loaded to what stands at each site's entry, and to the stub and the table.
-use Rattle.std.proofs.Common.{◌≡◌, ℕ, zero, suc, ◌+◌, ◌*◌, ◌/◌, ◌^◌, ◌<◌, ◌≤◌, true, false, cond, eqb, ltb, leb, List, [], ◌∷◌, ◌++◌, length, Option, Some, None, refl, sym, ap, ◌∙◌, subst, inl, inr, arith}
+use Rattle.std.proofs.Common.{◌≡◌, ℕ, zero, suc, ◌+◌, ◌*◌, ◌/◌, ◌^◌, ◌<◌, ◌≤◌, true, false, cond, eqb, ltb, leb, List, [], ◌∷◌, ◌++◌, length, get_or, map, Option, Some, None, refl, sym, ap, ◌∙◌, subst, inl, inr, arith}
 use mathlib.Core.Path.{fun_ext}
 use Rattle.std.specs.Prelude.{slice_index}
-use Rattle.std.specs.List.{AllByRecursion}
+use Rattle.std.specs.List.{flat_map, AllByRecursion}
 use Rattle.std.specs.Option.{option_map}
 use Rattle.std.proofs.lemmas.List.{length-append}
+use Rattle.std.proofs.lemmas.List.FromFn.{get_or-map-range_with_len}
 use Rattle.std.proofs.lemmas.Bool.{le-leb, lt-ltb, lt-leb, and_from, and_left, cond_both}
 use Rattle.byteorder.specs.Endian.{little_bytes}
 use Rattle.mv_base.specs.Bytes.{AreBytes, words}
@@ -16,7 +17,7 @@ use Rattle.elf32_read.specs.declared.run.Run.{Run}
 use Rattle.elf32_read.specs.Load.{load}
 use Rattle.elf32_read.specs.Runs.{runs_of, code_of, AreApart}
 use Rattle.elf32_write.specs.Format.{up, private_len}
-use Rattle.elf32_write.specs.Frame.{Frame, frame_map, frame_entry, frame_table, is_added, is_private}
+use Rattle.elf32_write.specs.Frame.{Frame, frame_map, frame_entry, frame_table, is_added, is_private, kind_at, pair_at, counted}
 use Rattle.map_table.specs.Pairs.{entry_in}
 use Rattle.map_table.specs.Paged.{places_from, table_words, table_bytes, IsPaged, IsMade}
 use Rattle.map_table.specs.laws.Reading.{Laws, made_laws}
@@ -27,15 +28,15 @@ use Rattle.counter_hooks.specs.Rules.{picked}
 use Rattle.superset.specs.declared.site.Site.{Site}
 use Rattle.simulation_laws.specs.declared.anchors.Anchors.{Anchors}
 use Rattle.simulation_laws.specs.Pieces.{piece, successor, counter_in, counter_code}
-use Rattle.simulation_laws.specs.Relocated.{StandAt, PieceAt, piece_there, piece_place, counter_there, counter_of, counted, anchors_of}
+use Rattle.simulation_laws.specs.Relocated.{StandAt, PieceAt, piece_there, piece_place, counter_there, counter_of, anchors_of}
 use Rattle.step_laws.specs.Jumps.{jump_bytes}
-use Rattle.elf32_write.specs.File.{table_of}
+use Rattle.elf32_write.specs.File.{pair_words, table_of}
 use Rattle.elf32_write.specs.Parts.{Stands, stands_whole, stands_left, stands_first, stands_second}
 use Rattle.elf32_write.specs.Written.{up-le}
 use Rattle.image_layout.specs.InPlace.{IsInPlace}
 use Rattle.image_layout.specs.Layout.{plan}
 use Rattle.image_layout.specs.Layout as layout
-use Rattle.image_layout.specs.Pieces.{piece_len, counter_len, site_len, counters, chain_code}
+use Rattle.image_layout.specs.Pieces.{all_at, piece_len, counter_len, site_len, counters, chain_code}
 use Rattle.image_layout.specs.Sites.{IsWhole}
 use Rattle.image_layout.specs.laws.Sizes.{piece_sized}
 use Rattle.image_layout.specs.laws.SiteFacts.{is_site_at, IsListed, site_there}
@@ -43,7 +44,7 @@ use Rattle.image_layout.specs.laws.LayFacts.{AreLaid, HasBase, made, entry_most}
 use Rattle.image_layout.specs.laws.LayFacts as lay_facts
 use Rattle.image_layout.specs.laws.InPlacing.{no_entry, entry_inside, entries_differ, in_place}
 use Rattle.mv_rewrite.specs.Sites.{site_at, code_in, sites}
-use Rattle.mv_rewrite.specs.Layout.{moved, code, chains, counted_at, code_len, table_len, size, table_from, private_from, pairs_at, runs_at, anchors_at, plan_at}
+use Rattle.mv_rewrite.specs.Layout.{moved, code, chains, counted_at, listed_at, code_len, table_len, size, table_from, private_from, pairs_at, runs_at, anchors_at, plan_at}
 use Rattle.mv_rewrite.proofs.LayoutFacts.{same_code}
 use Rattle.mv_rewrite.proofs.Planned.{private_size, length-code, length-table_of}
 use Rattle.mv_rewrite.proofs.Longer.{page_front, entry_front}
@@ -64,6 +65,12 @@ words_bytes (n ∷ ns) (suc zero) = word_bytes n 1
 words_bytes (n ∷ ns) (suc (suc zero)) = word_bytes n 2
 words_bytes (n ∷ ns) (suc (suc (suc zero))) = word_bytes n 3
 words_bytes (n ∷ ns) (suc (suc (suc (suc k)))) = words_bytes ns k
+
+-- kinds of addresses that are listed for all executions
+listed_whole : (xs : List ℕ) (k : ℕ) → (get_or (map all_at xs) k (0, 0)).1 ≡ 0
+listed_whole [] k = refl
+listed_whole (x ∷ xs) zero = refl
+listed_whole (x ∷ xs) (suc k) = listed_whole xs k
 
 -- what the table has for runs is what a lookup of them reads, with what stands behind it too
 looked_up : (bytes more : List ℕ) (lo from dir : ℕ) (rs : List Run) → lo + length bytes < 2 ^ 32 → AreApart from rs → AllByRecursion (IsPaged bytes lo) (places_from dir rs) → AllByRecursion (finding.IsPlaced 2 (bytes ++ more) lo) (places_from dir rs)
@@ -97,7 +104,7 @@ pub record IsPlaced (b : List ℕ) (rule : Rule) (base : ℕ) (x : List ℕ) (f 
   pub runs_are : f.runs ≡ runs_at b rule base
   pub private : f.private ≡ private_from b rule base
   pub first_counter : f.first_counter ≡ private_from b rule base + 64
-  pub counted_are : counted f ≡ counted_at b rule
+  pub counted_are : counted f ≡ listed_at b rule
   pub added_lo : f.added.lo ≡ base
   pub added_len : f.added.len ≡ size b rule
   pub cells : (k : ℕ) → k < length (plan_at b rule base).code → load x (base + k) ≡ Some (record { byte = slice_index (plan_at b rule base).code k; write = false; exec = true })
@@ -149,7 +156,7 @@ module _ (b : List ℕ) (rule : Rule) (base : ℕ) (x : List ℕ) (f : Frame) (h
       ∙ (ap (λ (t : List ℕ). paged_entry t f.table.lo f.runs a) h.table_is
       ∙ (ap (λ n. paged_entry (table_of (plan_at b rule base)) n f.runs a) h.table_lo
       ∙ (ap (λ rs. paged_entry (table_of (plan_at b rule base)) (table_from b rule base) rs a) h.runs_are
-      ∙ (entry_front (plan_at b rule base).table (words (plan_at b rule base).counted) (table_from b rule base) (runs_at b rule base) laws.inside_are a
+      ∙ (entry_front (plan_at b rule base).table (words (flat_map pair_words (plan_at b rule base).counted)) (table_from b rule base) (runs_at b rule base) laws.inside_are a
       ∙ laws.reads_are a))))
 
   -- an address that is no site has none
@@ -225,7 +232,7 @@ module _ (b : List ℕ) (rule : Rule) (base : ℕ) (x : List ℕ) (f : Frame) (h
 
   -- the frame's counters are the plan's
   counters_are : counter_of f ≡ counters rule (anchors_at b rule base) (sites b)
-  counters_are = fun_ext (λ a. ap (λ (n : ℕ). counter_in n (counted f) a) h.first_counter ∙ ap (λ (l : List ℕ). counter_in (private_from b rule base + 64) l a) h.counted_are)
+  counters_are = fun_ext (λ a. ap (λ (n : ℕ). counter_in n (counted f) a) h.first_counter ∙ ap (λ (l : List (ℕ × ℕ)). counter_in (private_from b rule base + 64) l a) h.counted_are)
 
   -- the site's piece is in place by the frame's own map
   in_frame : (a : ℕ) (s : Site) → site_at (code_in b) a ≡ Some s → IsInPlace rule (anchors_of f) (frame_map f) (code_in b) (counter_of f) (plan_at b rule base).code s
@@ -239,6 +246,11 @@ module _ (b : List ℕ) (rule : Rule) (base : ℕ) (x : List ℕ) (f : Frame) (h
       (subst (λ (m : ℕ → ℕ). IsInPlace rule (anchors_at b rule base) m (code_in b) (counters rule (anchors_at b rule base) (sites b)) code s) (sym moves)
       (subst (λ (c : ℕ → Option ℕ). IsInPlace rule (anchors_at b rule base) move c (counters rule (anchors_at b rule base) (sites b)) code s) (sym same_bytes)
       (in_place rule (runs_of b) (sites b) (chains b) h.laid base h.based q.index s q.is))))
+
+  -- each counter is one of all executions
+  whole_kind : (k : ℕ) → k < f.counters → kind_at f k ≡ 0
+  whole_kind k lt =
+      ap (λ q. q.1) (sym (get_or-map-range_with_len (pair_at f) 0 f.counters k k (0, 0) lt (omega arith)) ∙ ap (λ (qs : List (ℕ × ℕ)). get_or qs k (0, 0)) h.counted_are) ∙ listed_whole (counted_at b rule) k
 
   -- what is in place stands where it is loaded: the counter, the piece, and what leads on
   piece_at : (s : Site) → length (counter_there f s) ≡ counter_len (picked rule s) → IsWhole (code_in b) s → IsInPlace rule (anchors_of f) (frame_map f) (code_in b) (counter_of f) (plan_at b rule base).code s → PieceAt b x f s
@@ -256,6 +268,7 @@ module _ (b : List ℕ) (rule : Rule) (base : ℕ) (x : List ℕ) (f : Frame) (h
       let end : f.code.lo + w.off + site_len rule s ≡ piece_place f s + length (piece_there b f s) = omega (arith, behind, len, counter) in
       let there : f.code.lo + (w.off + site_len rule s) ≡ piece_place f s + length (piece_there b f s) = omega (arith, behind, len, counter) in
       record {
+        whole = λ k lt e. whole_kind k lt;
         counts = subst (λ at. StandAt x f at front) here (code_stands w.off front (stands_first code front own w.off w.stands));
         stands = subst (λ at. StandAt x f at (p at)) behind (subst (λ at. StandAt x f at own) along (code_stands (w.off + n) own (stands_second code front own w.off n refl w.stands)));
         leads = λ on. elim (w.leads on) [
@@ -291,7 +304,7 @@ module _ (b : List ℕ) (rule : Rule) (base : ℕ) (x : List ℕ) (f : Frame) (h
   unfolding plan table_bytes
   table_are_bytes =
       let ws = table_words (runs_of b) (pairs_at b rule base) (table_from b rule base) in
-      let list = counted_at b rule in
+      let list = flat_map pair_words (listed_at b rule) in
       subst (λ (t : List ℕ). AreBytes t) (words-append ws list ∙ sym h.table_is) (words_bytes (ws ++ list))
 
   pub table_holds : (k : ℕ) → k < length (frame_table f) → option_map (λ c. c.byte) (load x (f.table.lo + k)) ≡ Some (slice_index (frame_table f) k)
@@ -306,7 +319,7 @@ module _ (b : List ℕ) (rule : Rule) (base : ℕ) (x : List ℕ) (f : Frame) (h
   pub placed : AllByRecursion (finding.IsPlaced f.form (frame_table f) f.table.lo) f.runs
   placed =
       let t = (plan_at b rule base).table in
-      let list = words (plan_at b rule base).counted in
+      let list = words (flat_map pair_words (plan_at b rule base).counted) in
       let end : table_from b rule base + length t < 2 ^ 32 = omega (arith, length-append t list, length-table_of b rule base, up-le (table_len b rule), size-code, h.low) in
       let all = looked_up t list (table_from b rule base) 0 (table_from b rule base + 4096) (runs_of b) end h.laid.runs.apart laws.inside_are in
       subst (λ n. AllByRecursion (finding.IsPlaced n (frame_table f) f.table.lo) f.runs) (sym h.form_is)

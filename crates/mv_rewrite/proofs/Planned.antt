@@ -4,7 +4,7 @@ use Rattle.std.specs.List.{list_any, list_all, filter_map, cons_option, range_wi
 use Rattle.std.proofs.lemmas.List.{length-append, length-map}
 use Rattle.std.proofs.lemmas.List.FromFn.{length-range_with_len}
 use Rattle.std.proofs.lemmas.Bool.{true≢false, cases_Bool, leb-true, ltb-false, and_parts, or_cases, or_left, or_right, cond_both}
-use Rattle.mv_base.specs.Bytes.{AreBytes, words}
+use Rattle.mv_base.specs.Bytes.{AreBytes}
 use Rattle.mv_base.specs.declared.range.RunPlace.{RunPlace}
 use Rattle.elf32_read.specs.declared.image.Phdr.{Phdr}
 use Rattle.elf32_read.specs.declared.image.Segment.{Segment}
@@ -15,7 +15,6 @@ use Rattle.elf32_read.specs.Runs.{runs_of, code_of}
 use Rattle.elf32_write.specs.Format.{up, private_len}
 use Rattle.counter_hooks.specs.declared.rules.Rule.{Rule}
 use Rattle.elf32_write.specs.File.{head_len, code_place, table_of, kept_header, added_header, with_added, new_headers, file_of}
-use Rattle.mv_base.specs.Words.{length-words}
 use Rattle.map_table.specs.Pairs.{entry_in}
 use Rattle.map_table.specs.Paged.{table_size, IsMade}
 use Rattle.map_table.specs.laws.Reading.{length-table_bytes}
@@ -26,7 +25,7 @@ use Rattle.image_layout.specs.Fit.{is_apart}
 use Rattle.image_layout.specs.Layout.{plan}
 use Rattle.image_layout.specs.Layout as layout
 use Rattle.image_layout.specs.Parts.{parts, placed, entry}
-use Rattle.image_layout.specs.Pieces.{counters, code_lens, part_bytes, bytes_of, chain_code}
+use Rattle.image_layout.specs.Pieces.{all_at, counters, code_lens, part_bytes, bytes_of, chain_code}
 use Rattle.image_layout.specs.laws.Blocks.{HasRoom, room_at, length-run_places}
 use Rattle.image_layout.specs.laws.Placing.{length-code_at}
 use Rattle.image_layout.specs.laws.Sizes.{part_sized}
@@ -36,7 +35,7 @@ use Rattle.image_layout.specs.laws.LayFacts.{AreLaid, HasBase, has_base, made, e
 use Rattle.mv_rewrite.specs.Sites.{code_in, sites}
 use Rattle.mv_rewrite.specs.Layout.{moved, code, chains, counted_at, base_of, size, stub_len, code_len, table_len, table_from, private_from, pairs_at, runs_at, anchors_at, plan_at}
 use Rattle.elf32_write.specs.Parts.{IsHeader}
-use Rattle.elf32_write.specs.Written.{IsWritable, IsWritten, written, up-le}
+use Rattle.elf32_write.specs.Written.{IsWritable, IsWritten, written, table_length, up-le}
 use Rattle.mv_rewrite.proofs.Fine.{passed, neither}
 use Rattle.mv_rewrite.proofs.NewHeaders.{Block, IsBlock, block_size, code_of_block, table_of_block, private_of_block, block_headers, AreApart, fine_output}
 
@@ -69,13 +68,10 @@ module _ (b : List ℕ) (rule : Rule) (base : ℕ) where
 
   pub length-counted : length (plan_at b rule base).counted ≡ count b rule
   unfolding plan
-  length-counted = refl
+  length-counted = length-map (counted_at b rule) all_at
 
   pub length-table_of : length (table_of (plan_at b rule base)) ≡ table_len b rule
-  length-table_of =
-      length-append (plan_at b rule base).table (words (plan_at b rule base).counted)
-      ∙ (ap (λ n. n + length (words (plan_at b rule base).counted)) length-table
-      ∙ (ap (λ n. words_len b + n) (length-words (plan_at b rule base).counted) ∙ ap (λ n. words_len b + 4 * n) length-counted))
+  length-table_of = table_length (plan_at b rule base) ∙ (ap (λ n. n + 8 * length (plan_at b rule base).counted) length-table ∙ ap (λ n. words_len b + 8 * n) length-counted)
 
   pub size_is : size b rule ≡ up (code_len b rule) + up (table_len b rule) + up (private_size b rule)
   unfolding layout.size
@@ -87,12 +83,10 @@ module _ (b : List ℕ) (rule : Rule) (base : ℕ) where
 
 -- ---- what is asked of an image
 
--- a file that is rewritten by a rule with its block at this base: it has no fault, its runs have its executable bytes, and
--- what is written is bytes
+-- a file that is rewritten by a rule with its block at this base: it has no fault, and its runs have its executable bytes
 pub record IsInput (b : List ℕ) (rule : Rule) (base : ℕ) : Type 0 where
   pub bytes : AreBytes b
-  pub bytes_there : AreBytes (file_of b (plan_at b rule base))
-  pub small : length b ≤ 67108864
+  pub small : length b ≤ 268435456
   pub loads : load_refusal b ≡ None
   pub few_headers : header_count b ≤ 61
   pub base_is : base_of b rule ≡ Some base
@@ -224,7 +218,9 @@ module _ (b : List ℕ) (rule : Rule) (base : ℕ) (is : IsInput b rule base) wh
   unfolding plan
   headers_are =
       ap (λ l. with_added base l (headers b))
-      (ap (λ c. added_by (code_place (length b)) base c (length (table_of (plan_at b rule base))) (private_size b rule)) (length-code b rule base is.laid) ∙ ap (λ t. added_by (code_place (length b)) base (code_len b rule) t (private_size b rule)) (length-table_of b rule base))
+      (ap (λ n. added_by (code_place (length b)) base (length (plan_at b rule base).code) (length (table_of (plan_at b rule base))) (private_len n)) (length-counted b rule base)
+      ∙ (ap (λ c. added_by (code_place (length b)) base c (length (table_of (plan_at b rule base))) (private_size b rule)) (length-code b rule base is.laid)
+      ∙ ap (λ t. added_by (code_place (length b)) base (code_len b rule) t (private_size b rule)) (length-table_of b rule base)))
 
   pub entry_bound : (a : ℕ) → entry_in (pairs_at b rule base) a < 2 ^ 32
   entry_bound a = omega (arith, entry_most rule (runs_of b) (sites b) (chains b) is.laid base a, room.low, size_is b rule base, up-le (code_len b rule))

@@ -1,7 +1,6 @@
 -- The frame of an output.
-use Rattle.std.proofs.Common.{◌≡◌, ℕ, zero, suc, ◌+◌, ◌*◌, ◌<◌, ◌≤◌, Bool, true, cond, eqb, leb, ltb, ◌&&◌, List, [], ◌∷◌, ◌++◌, length, Some, refl, sym, ap, ◌∙◌, subst, arith}
-use Rattle.std.specs.List.{sum_by, list_all, range_with_len, AllByRecursion}
-use Rattle.std.proofs.lemmas.List.{ext_get_or}
+use Rattle.std.proofs.Common.{◌≡◌, ℕ, zero, suc, ◌+◌, ◌*◌, ◌^◌, ◌<◌, ◌≤◌, Bool, true, cond, eqb, leb, ltb, ◌&&◌, List, [], ◌∷◌, ◌++◌, length, map, slice_index, Some, refl, sym, ap, ◌∙◌, subst, arith}
+use Rattle.std.specs.List.{flat_map, sum_by, list_all, range_with_len, AllByRecursion}
 use Rattle.std.proofs.lemmas.List.Sums.{sum_by-cons}
 use Rattle.std.proofs.lemmas.Bool.{le-leb, lt-ltb, and_from}
 use Rattle.mv_base.specs.Bytes.{words}
@@ -10,24 +9,24 @@ use Rattle.mv_base.specs.declared.range.RunPlace.{RunPlace}
 use Rattle.elf32_read.specs.declared.run.Run.{Run}
 use Rattle.elf32_read.specs.Runs.{runs_of, AreApart}
 use Rattle.elf32_write.specs.declared.plan.Plan.{Plan}
-use Rattle.elf32_write.specs.Format.{up}
-use Rattle.elf32_write.specs.File.{table_of, file_of}
-use Rattle.elf32_write.specs.Frame.{Frame, TableAt, is_in_table, has_pages, has_part, has_runs, frame, frame_table}
-use Rattle.elf32_write.specs.Frame as frame
+use Rattle.elf32_write.specs.Format.{up, private_len}
+use Rattle.elf32_write.specs.File.{pair_words, table_of, file_of}
+use Rattle.elf32_write.specs.Frame.{Frame, TableAt, is_in_table, has_pages, has_part, has_rules, has_runs, frame, frame_input, frame_table, counted}
 use Rattle.elf32_write.specs.Writing.{EndsLow}
-use Rattle.elf32_write.specs.Plans.{frame_of, plan_table, KeepsRules, ReadsBack}
+use Rattle.elf32_write.specs.Plans.{frame_of, plan_table, IsPair, KeepsRules, ReadsBack}
 use Rattle.elf32_write.specs.ReadBack.{reads_back}
 use Rattle.counter_hooks.specs.declared.rules.Rule.{Rule}
+use Rattle.counter_hooks.specs.declared.rules.Rule.TheVariants as rule
+use Rattle.counter_hooks.specs.Rules.{number_of}
 use Rattle.map_table.specs.Paged.{places_from, IsPaged}
 use Rattle.map_table.specs.laws.Reading.{Laws, made_laws}
 use Rattle.image_layout.specs.Layout.{plan}
 use Rattle.image_layout.specs.laws.SiteFacts.{run_len}
 use Rattle.image_layout.specs.laws.LayFacts.{AreLaid}
-use Rattle.simulation_laws.specs.Relocated.{counted}
-use Rattle.simulation_laws.specs.laws.Counters.{counted_is, length-counted as length-counted_at}
+use Rattle.image_layout.specs.Pieces.{all_at}
 use Rattle.mv_rewrite.proofs.LayoutFacts.{counted_low}
 use Rattle.mv_rewrite.specs.Sites.{sites}
-use Rattle.mv_rewrite.specs.Layout.{chains, counted_at, code_len, table_len, table_from, private_from, pairs_at, runs_at, plan_at}
+use Rattle.mv_rewrite.specs.Layout.{chains, counted_at, listed_at, code_len, table_len, table_from, private_from, pairs_at, runs_at, plan_at}
 use Rattle.mv_rewrite.proofs.Planned.{count, private_size, words_len, length-code, length-table, length-table_of, length-counted, size_is, IsInput, room, made_at, writable}
 use Rattle.mv_rewrite.proofs.Longer.{page_front}
 
@@ -35,6 +34,7 @@ use Rattle.mv_rewrite.proofs.Longer.{page_front}
 
 abbrev pub frame_is : List ℕ → Rule → ℕ → Frame
 frame_is b rule base = record {
+  version = 2;
   form = 2;
   input_len = length b;
   added = record { lo = base; len = up (code_len b rule) + up (table_len b rule) + up (private_size b rule) };
@@ -45,6 +45,8 @@ frame_is b rule base = record {
   first_counter = base + up (code_len b rule) + up (table_len b rule) + 64;
   counters = count b rule;
   list = base + up (code_len b rule) + words_len b;
+  rule = number_of rule;
+  edge_rule = 0;
   runs = runs_at b rule base;
   file = file_of b (plan_at b rule base);
 }
@@ -90,18 +92,21 @@ places_sum dir (r ∷ rs) =
     let next = dir + 4 * group_count (length r.bytes) in
     sum_by-cons place_len place (places_from next rs) ∙ (ap (λ n. length r.bytes + n) (places_sum next rs) ∙ sym (sum_by-cons run_len r rs))
 
-abbrev frame_by : List ℕ → Rule → ℕ → ℕ → ℕ → ℕ → Frame
-frame_by b rule base c t u = record {
+abbrev frame_by : List ℕ → Rule → ℕ → ℕ → ℕ → ℕ → ℕ → Frame
+frame_by b rule base n c t u = record {
+  version = 2;
   form = 2;
   input_len = length b;
-  added = record { lo = base; len = up c + up t + up (private_size b rule) };
+  added = record { lo = base; len = up c + up t + up (private_len n) };
   code = record { lo = base; len = c };
   table = record { lo = base + up c; len = t };
   private = base + up c + up t;
   private_size = 64;
   first_counter = base + up c + up t + 64;
-  counters = count b rule;
+  counters = n;
   list = base + up c + u;
+  rule = number_of rule;
+  edge_rule = 0;
   runs = runs_at b rule base;
   file = file_of b (plan_at b rule base);
 }
@@ -109,9 +114,26 @@ frame_by b rule base c t u = record {
 same_frame : (b : List ℕ) (rule : Rule) (base : ℕ) → AreLaid (runs_of b) (sites b) (chains b) → frame_of b (plan_at b rule base) ≡ frame_is b rule base
 unfolding frame_of plan
 same_frame b rule base laid =
-    ap (λ c. frame_by b rule base c (length (table_of (plan_at b rule base))) (length (plan_at b rule base).table)) (length-code b rule base laid)
-    ∙ (ap (λ t. frame_by b rule base (code_len b rule) t (length (plan_at b rule base).table)) (length-table_of b rule base)
-    ∙ ap (λ u. frame_by b rule base (code_len b rule) (table_len b rule) u) (length-table b rule base))
+    let p = plan_at b rule base in
+    ap (λ n. frame_by b rule base n (length p.code) (length (table_of p)) (length p.table)) (length-counted b rule base)
+    ∙ (ap (λ c. frame_by b rule base (count b rule) c (length (table_of p)) (length p.table)) (length-code b rule base laid)
+    ∙ (ap (λ t. frame_by b rule base (count b rule) (code_len b rule) t (length p.table)) (length-table_of b rule base)
+    ∙ ap (λ u. frame_by b rule base (count b rule) (code_len b rule) (table_len b rule) u) (length-table b rule base)))
+
+-- addresses with kind 0 are pairs of a list
+listed_fit : (xs : List ℕ) → ((k : ℕ) → k < length xs → slice_index xs k < 2 ^ 32) → AllByRecursion IsPair (map all_at xs)
+listed_fit [] low = tt
+listed_fit (x ∷ xs) low = ((low 0 (omega arith), omega arith), listed_fit xs (λ k lt. low (suc k) (omega (arith, lt))))
+
+-- the number of a rule is one of a record
+rules_fit : (r : Rule) → has_rules (number_of r) 0 ≡ true
+rules_fit rule.None = refl
+rules_fit rule.All = refl
+rules_fit rule.Calls = refl
+rules_fit rule.Returns = refl
+rules_fit rule.Branches = refl
+rules_fit rule.System = refl
+rules_fit (rule.At xs) = refl
 
 module _ (b : List ℕ) (rule : Rule) (base : ℕ) (is : IsInput b rule base) where
   abbrev p : Plan
@@ -139,8 +161,10 @@ module _ (b : List ℕ) (rule : Rule) (base : ℕ) (is : IsInput b rule base) wh
       let end : t.lo + length p.table ≤ t.list = omega (arith, lengths.0, lengths.2) in
       record {
         at = omega (arith, (room b rule base is).at);
-        size = le-leb (sum_by place_len (runs_at b rule base)) 4194304 (omega (arith, places_sum (table_from b rule base + 4096) (runs_of b), is.laid.runs.small));
-        runs = runs_keep t p.table (words p.counted) 0 (table_from b rule base + 4096) (runs_of b) refl refl is.laid.runs.apart end paged;
+        size = le-leb (sum_by place_len (runs_at b rule base)) 16777216 (omega (arith, places_sum (table_from b rule base + 4096) (runs_of b), is.laid.runs.small));
+        counted = listed_fit (counted_at b rule) (counted_low b rule is.laid);
+        rules = rules_fit rule;
+        runs = runs_keep t p.table (words (flat_map pair_words p.counted)) 0 (table_from b rule base + 4096) (runs_of b) refl refl is.laid.runs.apart end paged;
       }
 
   ends : EndsLow (plan_at b rule base)
@@ -158,10 +182,11 @@ module _ (b : List ℕ) (rule : Rule) (base : ℕ) (is : IsInput b rule base) wh
   pub table_there : frame_table (frame_is b rule base) ≡ table_of (plan_at b rule base)
   table_there = ap frame_table (sym (same_frame b rule base is.laid)) ∙ read.table_is
 
-  -- the counted addresses are the plan's
-  pub counted_there : counted (frame_is b rule base) ≡ counted_at b rule
+  -- the counters are the plan's
+  pub counted_there : counted (frame_is b rule base) ≡ listed_at b rule
   unfolding plan
-  counted_there =
-      ext_get_or 0 (counted (frame_is b rule base)) (counted_at b rule) (length-counted_at (frame_is b rule base)) (λ k lt.
-      let below : k < count b rule = omega (arith, lt, length-counted_at (frame_is b rule base)) in
-      counted_is (frame_is b rule base) k below ∙ (ap (λ (f : Frame). frame.counted_at f k) (sym (same_frame b rule base is.laid)) ∙ read.counted_are k below (counted_low b rule is.laid k below)))
+  counted_there = ap counted (sym (same_frame b rule base is.laid)) ∙ read.counted_are
+
+  -- and the input is the file's
+  pub input_there : frame_input (frame_is b rule base) ≡ b
+  input_there = ap frame_input (sym (same_frame b rule base is.laid)) ∙ read.input_is

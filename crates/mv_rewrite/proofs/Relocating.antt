@@ -2,6 +2,7 @@
 use Rattle.std.proofs.Common.{◌≡◌, ℕ, ◌+◌, ◌-◌, ◌<◌, Bool, true, false, cond, ltb, List, [], ◌∷◌, length, Option, Some, None, refl, sym, ap, ◌∙◌, subst, inl, inr, arith}
 use Rattle.std.specs.Prelude.{slice_index}
 use Rattle.std.proofs.lemmas.Bool.{cases_Bool, cases_lt, and_from, and_cases, lt-ltb, ltb-false, true≢false}
+use Rattle.mv_base.specs.Bytes.{AreBytes}
 use Rattle.mv_base.specs.Memory.{Cell, byte_of, within, first_of, cell_is, exec_byte, exec_byte_of}
 use Rattle.elf32_read.specs.declared.image.Phdr.{Phdr}
 use Rattle.elf32_read.specs.Fields.{headers, entry_at, is_load, maps, has_write, has_exec}
@@ -10,14 +11,14 @@ use Rattle.elf32_read.specs.Load.{load}
 use Rattle.elf32_write.specs.Format.{up}
 use Rattle.elf32_write.specs.File.{code_place, table_of, with_added, file_of}
 use Rattle.elf32_write.specs.Parts.{Stands}
-use Rattle.elf32_write.specs.Frame.{frame_code, is_added, is_private}
+use Rattle.elf32_write.specs.Frame.{frame_code, is_added, is_private, AscendPairs}
 use Rattle.elf32_write.specs.ReadBack.{taken}
 use Rattle.elf32_write.specs.Within.{within_parts}
 use Rattle.elf32_write.specs.Written.{up-le}
-use Rattle.counter_hooks.specs.Rules.{Ascend}
 use Rattle.counter_hooks.specs.declared.rules.Rule.{Rule}
 use Rattle.image_layout.specs.Layout.{plan}
-use Rattle.mv_rewrite.specs.Layout.{code_len, table_len, table_from, plan_at}
+use Rattle.image_layout.specs.laws.Counters.{listed_ascend}
+use Rattle.mv_rewrite.specs.Layout.{counted_at, code_len, table_len, table_from, plan_at}
 use Rattle.simulation_laws.specs.Relocated.{IsOutput, IsRelocated, without_exec}
 use Rattle.mv_rewrite.proofs.PlacedPlan.{IsPlaced, map_is, others, mapped, pieces, stub_stands, table_added, table_are_bytes, table_holds, table_low, placed}
 use Rattle.mv_rewrite.proofs.Fine.{IsFine}
@@ -179,14 +180,14 @@ module _ (b : List ℕ) (rule : Rule) (base : ℕ) (is : IsInput b rule base) wh
       let below : k < length code = omega (arith, lt, ap length is_code) in
       ap exec_byte_of (is_placed.cells k below) ∙ ap (λ (l : List ℕ). Some (slice_index l k)) (sym is_code)
 
-  pub output_is : IsOutput b x (frame_is b rule base)
+  pub output_is : AreBytes x → IsOutput b x (frame_is b rule base)
   unfolding plan
-  output_is = record {
+  output_is there = record {
     admitted = admitted b rule base is;
     framed = framed b rule base is;
     low = omega (arith, (room b rule base is).low, size_is b rule base);
     bytes = is.bytes;
-    bytes_there = is.bytes_there;
+    bytes_there = there;
     outside = outside;
     free = free;
     scratch = λ a e. (in_added a (private_in a e), ap write_of (added a (private_in a e) ∙ private_cell x (block b rule base is) a e));
@@ -204,11 +205,11 @@ module _ (b : List ℕ) (rule : Rule) (base : ℕ) (is : IsInput b rule base) wh
     code = code_runs;
   }
 
-  pub relocated : IsRelocated b x (frame_is b rule base)
+  pub relocated : AreBytes x → IsRelocated b x (frame_is b rule base)
   unfolding plan
-  relocated = record {
-    output = output_is;
-    ascends = subst Ascend (sym (counted_there b rule base is)) (counted_ascend b rule is.laid);
+  relocated there = record {
+    output = output_is there;
+    ascends = subst AscendPairs (sym (counted_there b rule base is)) (listed_ascend (counted_at b rule) (counted_ascend b rule is.laid));
     entry = (wrote b rule base is).entry_is ∙ sym (map_is b rule base x (frame_is b rule base) is_placed (entry_at b));
     pieces = pieces b rule base x (frame_is b rule base) is_placed;
     others = others b rule base x (frame_is b rule base) is_placed;

@@ -11,7 +11,7 @@ use Rattle.simulation_laws.specs.declared.anchors.Anchors.{Anchors}
 use Rattle.image_layout.specs.Fit.{first_fit}
 use Rattle.image_layout.specs.Layout as layout
 pub use Rattle.image_layout.specs.Layout.{moved, code}
-use Rattle.image_layout.specs.Pieces.{counted}
+use Rattle.image_layout.specs.Pieces.{counted, listed}
 use Rattle.mv_rewrite.specs.Sites.{sites}
 
 -- the chains of a file's sites
@@ -22,7 +22,11 @@ chains b = chains_of (sites b)
 abbrev pub counted_at : List ℕ → Rule → List ℕ
 counted_at b rule = counted rule (sites b)
 
--- the length of the stub, of the code and of the table with the list of counted addresses
+-- the counters of these sites, as the list has them
+abbrev pub listed_at : List ℕ → Rule → List (ℕ × ℕ)
+listed_at b rule = listed rule (sites b)
+
+-- the length of the stub, of the code and of the table with the list of counters
 abbrev pub stub_len : List ℕ → ℕ
 stub_len b = layout.stub_len (runs_of b)
 

@@ -6,15 +6,15 @@ use Rattle.elf32_read.specs.Fields.{entry_at}
 use Rattle.elf32_read.specs.Faults.{load_refusal}
 use Rattle.elf32_read.specs.Load.{load}
 use Rattle.elf32_read.specs.Runs.{runs_of}
-use Rattle.elf32_write.specs.Frame.{Frame, frame, frame_input, frame_code, frame_table, frame_entry, frame_map, is_added, is_private}
+use Rattle.elf32_write.specs.Frame.{Frame, frame, frame_input, frame_code, frame_table, frame_entry, frame_map, is_added, is_private, counted, AscendPairs}
 use Rattle.map_table.specs.Pairs.{entry_in}
 use Rattle.map_table.specs.Paged.{places}
-use Rattle.counter_hooks.specs.Rules.{Ascend}
+use Rattle.counter_hooks.specs.Rules.{number_of}
 use Rattle.counter_hooks.specs.declared.rules.Rule.{Rule}
 use Rattle.superset.specs.declared.site.Site.{Site}
 use Rattle.mv_rewrite.specs.Sites.{site_at, code_in, sites}
-use Rattle.mv_rewrite.specs.Layout.{moved, size, base_of, chains, counted_at, pairs_at, code}
-use Rattle.simulation_laws.specs.Relocated.{PieceAt, without_exec, anchors_of, counted}
+use Rattle.mv_rewrite.specs.Layout.{moved, size, base_of, chains, listed_at, pairs_at, code}
+use Rattle.simulation_laws.specs.Relocated.{PieceAt, without_exec, anchors_of}
 
 -- the file for an input, with its frame
 pub record IsWrittenFor (b : List ℕ) (rule : Rule) (x : List ℕ) (f : Frame) : Type 0 where
@@ -25,9 +25,13 @@ pub record IsWrittenFor (b : List ℕ) (rule : Rule) (x : List ℕ) (f : Frame) 
   -- it adds the block of the input's size at the lowest place that has room
   pub base : base_of b rule ≡ Some f.added.lo
   pub size_is : f.added.len ≡ size b rule
-  -- it counts exactly the sites that the rule picks, each once: its list has their addresses, ascending
-  pub counted_are : counted f ≡ counted_at b rule
-  pub ascends : Ascend (counted f)
+  -- it counts exactly the sites that the rule picks, each once: its list has their addresses with kind 0, ascending
+  pub counted_are : counted f ≡ listed_at b rule
+  pub ascends : AscendPairs (counted f)
+  -- its record is of version 2, and names the rule
+  pub version : f.version ≡ 2
+  pub rule_is : f.rule ≡ number_of rule
+  pub edge_rule_is : f.edge_rule ≡ 0
   -- it has a table of form 2 over the input's runs
   pub form : f.form ≡ 2
   pub runs : f.runs ≡ places (runs_of b) f.table.lo
@@ -50,7 +54,7 @@ pub record IsWrittenFor (b : List ℕ) (rule : Rule) (x : List ℕ) (f : Frame) 
   pub free : (a : ℕ) → is_added f a ≡ true → load b a ≡ None
   -- the code may be executed and not written
   pub code : (k : ℕ) → k < f.code.len → load x (f.code.lo + k) ≡ Some (record { byte = slice_index (frame_code f) k; write = false; exec = true })
-  -- the table with the list of counted sites may only be read
+  -- the table with the list of counters may only be read
   pub table : (k : ℕ) → k < f.table.len → load x (f.table.lo + k) ≡ Some (record { byte = slice_index (frame_table f) k; write = false; exec = false })
   -- the private area and the counters are zeros that may be written and not executed
   pub private : (a : ℕ) → is_private f a ≡ true → load x a ≡ Some (record { byte = 0; write = true; exec = false })

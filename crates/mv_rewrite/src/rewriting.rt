@@ -20,8 +20,8 @@ use std::alloc::Global;
 use superset::sites;
 use thiserror::Error;
 
-/// How many bytes a file that is read may have: 64 MiB.
-pub const FILE_LIMIT: usize = 67_108_864;
+/// How many bytes a file that is read may have: 256 MiB.
+pub const FILE_LIMIT: usize = 268_435_456;
 
 /// An output file, how many sites its input has, the addresses that it adds, and how many counters it has.
 #[derive(Drop)]
