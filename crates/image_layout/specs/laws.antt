@@ -10,3 +10,4 @@ pub mod Blocks
 pub mod Counting
 pub mod LayFacts
 pub mod InPlacing
+pub mod Ruled

@@ -14,3 +14,6 @@ pub mod Relocating
 pub mod Outputs
 pub mod OutputFacts
 pub mod Assembled
+-- the rule of an output that is there, and the laws
+pub mod Listed
+pub mod Kept

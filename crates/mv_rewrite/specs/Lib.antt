@@ -4,3 +4,4 @@ pub mod Layout
 pub mod Output
 pub mod OutputFile
 pub mod Rewriting
+pub mod Upgrading
