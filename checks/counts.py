@@ -38,7 +38,7 @@ def compare(multiverse, stepper, original, title, folder):
     second = Trace(multiverse, output, answers, log)
     counted = {int(at, 16): int(number) for at, number in (line.split()[1:] for line in second.lines("count"))}
     with open(output, "rb") as file:
-        sites = set(read_frame(file.read()).list)
+        sites = {at for at, _ in read_frame(file.read()).list}
     wanted = {at: number for at, number in executed(stepper, original, folder).items() if at in sites}
     if counted != wanted:
         differing = sorted(at for at in {*counted, *wanted} if counted.get(at) != wanted.get(at))

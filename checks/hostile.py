@@ -5,19 +5,22 @@
 
 What must be answered is worked out by oracles.py, which knows nothing of the program. Of each image: whether it is refused, and by
 which fault; that a refusal leaves OUT as it was; the sites, by the table of decode.py; the place of the block; the frame that is read
-back, and that each site and nothing else has an entry of its own in its code; that image and output trace alike. Of each log:
-the line at which it is no log. Cases are from a fixed seed; the fixed ones come first, and then random ones until the time is over. Each
-tenth run has a stack of 64 KiB.
+back, and that each site and nothing else has an entry of its own in its code; that image and output trace alike; that the image is
+extracted from the output, and the output upgraded to itself. Of each output in which something was changed: whether it has a frame,
+what is extracted from it, and that it is upgraded to what its input is rewritten to by the frame's rule. Of each log: the line at which
+it is no log. Cases are from a fixed seed; the fixed ones come first, and then random ones until the time is over. Each tenth run has a
+stack of 64 KiB.
 """
 import glob, os, random, re, resource, struct, subprocess, sys, time
 
 import oracles
 from decode import expected
-from oracles import BLOCK_FROM, CODE_LIMIT, FILE_LIMIT, LOAD, MAPPED_LIMIT, PAGE, R, W, X
+from oracles import BLOCK_FROM, CODE_LIMIT, FILE_LIMIT, LOAD, MAPPED_LIMIT, PAGE, R, RULES, VERSIONS, W, X
 
 HERE = os.path.dirname(os.path.abspath(__file__))
-STEPS, SHOWN, SMALL = 20000, 20, 65536
+STEPS, SHOWN, SMALL, LARGE = 20000, 20, 65536, 1 << 20
 OLD = b"what OUT held before"
+WRITTEN_VERSION = 2
 
 
 class Check:
@@ -146,11 +149,17 @@ def sites_of(image):
     return found
 
 
+def executable(image):
+    return sum(len(code) for _, code in oracles.runs(image))
+
+
 def judge(check, image, log=b"log 1\n"):
     """One image: rewritten, listed and traced, each answer compared."""
     write("in", image), write("out", OLD), write("log", log)
     fault = oracles.fault(image)
     option = check.rng.choice(([], [], ["--count=all"], ["--count=branches"]))
+    if not fault and executable(image) > LARGE:
+        option = []  # counters at each of millions of sites would make a file of a gigabyte
     status, text = check.run("rewrite", "in", "out", *option)
     check.count(fault.split()[0] if fault else "rewritten" if status == 0 else "no room")
     if fault:
@@ -182,11 +191,17 @@ def rewritten(check, image, option, status, text):
     check.want("counters", (int(printed[4]), sorted(set(frame.list))), (frame.counters, frame.list))
     check.want("input in OUT", output[0x1000:0x1000 + len(image)], image)
     check.want("runs", [(run, size) for run, size, _ in frame.runs], [(at, len(code)) for at, code in oracles.runs(image)])
-    if sum(len(code) for _, code in oracles.runs(image)) <= 3000:
+    check.want("version and rules", (frame.version, frame.form, frame.rule, frame.edge_rule, {kind for _, kind in frame.list} - {0}),
+               (WRITTEN_VERSION, 2, RULES.index(option[0][8:]) if option else 0, 0, set()))
+    if executable(image) <= 3000:
         placed(check, image, frame, sites)
     if not option or option == ["--count=all"]:
         check.want("counters", frame.counters, sites if option else 0)
     trace(check, image, "in", frame)
+    check.want("extract", check.run("extract", "out", "back"), (0, f"input {len(image)}\n"))
+    check.want("what is extracted", read("back") == image, True)
+    check.want("upgrade", check.run("upgrade", "out", "back"), (0, text))
+    check.want("what is upgraded", read("back") == output, True)
 
 
 def placed(check, image, frame, sites):
@@ -245,6 +260,105 @@ def trace(check, image, name, frame=None):
     check.want("the output's trace", (status, without(after.splitlines())), (0, without(lines)))
 
 
+# Outputs, and files that are like them.
+
+def remade(file, version):
+    """An output with its frame as another version has it; the code is left as it is."""
+    frame = oracles.read_frame(file)
+    _, listed, _, _ = VERSIONS[version]
+    table = frame.table_bytes[:frame.before_list] + b"".join(struct.pack("<II", *counter)[:listed] for counter in frame.list)
+    length = oracles.up(frame.code_len) + oracles.up(len(table)) + oracles.up(64 + 8 * frame.counters)
+    private = frame.table + oracles.up(len(table))
+    words = [oracles.MAGIC, version, frame.form, frame.input, frame.lo, length, frame.code, frame.code_len, frame.table, len(table),
+             private, 64, private + 64, frame.counters, frame.table + len(table) - listed * frame.counters, len(frame.runs)]
+    words += [frame.rule, frame.edge_rule] * (version == 2)
+    words += [word for run in frame.runs for word in run]
+    head = file[:0x900] + struct.pack(f"<{len(words)}I", *words)
+    return b"".join(part + bytes(-len(part) % PAGE) for part in (head, frame.input_bytes, frame.code_bytes, table))
+
+
+def without_entries(version, image, lengths):
+    """A file with a frame over runs of so many addresses, none of which has an entry."""
+    groups = [-(-length // 1024) for length in lengths]
+    lo, table, private = 0x00200000, 0x00201000, 0x00202000 + oracles.up(4 * sum(groups))
+    cells = bytes(PAGE) + struct.pack("<I", table) * sum(groups)
+    words = [oracles.MAGIC, version, 2, len(image), lo, private + PAGE - lo, lo, 1, table, len(cells), private, 64, private + 64, 0,
+             table + len(cells), len(lengths), *(0, 0) * (version == 2)]
+    for k, length in enumerate(lengths):
+        words += [0x08048000 + sum(lengths[:k]) + k, length, table + PAGE + 4 * sum(groups[:k])]
+    head = bytes(0x900) + struct.pack(f"<{len(words)}I", *words)
+    return b"".join(part + bytes(-len(part) % PAGE) for part in (head, image, b"\xF4", cells))
+
+
+def changed_fields(file):
+    """A file once for each word of its record, for the one behind it, and for each word of its list and of its runs' parts of the table,
+    with each of some other numbers there."""
+    frame = oracles.read_frame(file)
+    table = frame.at + oracles.up(frame.code_len)
+    places = [*range(0x900, 0x900 + 4 * (VERSIONS[frame.version][0] + 3 * len(frame.runs) + 1), 4),
+              *(table + at - frame.table for _, _, at in frame.runs), *range(table + frame.before_list, table + frame.table_len, 4)]
+    for place in places:
+        word = struct.unpack_from("<I", file, place)[0]
+        for other in {0, 1, 2, 3, 5, 6, 7, word + 1, word - 1, word + PAGE, word ^ 2**31} - {word}:
+            yield file[:place] + struct.pack("<I", other % 2**32) + file[place + 4:]
+
+
+def changed(rng, file):
+    """An output with something changed: in the record, the table, the list or the input, or its length."""
+    frame, file = oracles.read_frame(file), bytearray(file)
+    table = frame.at + oracles.up(frame.code_len)
+    for _ in range(rng.choice((1, 1, 2))):
+        kind = rng.randrange(6)
+        if kind < 4:
+            first, most = ((0x900, 18 + 3 * len(frame.runs)), (table, frame.before_list // 4), (table + PAGE, 4),
+                           (table + frame.before_list, (frame.table_len - frame.before_list) // 4))[kind]
+            place = first + 4 * rng.randrange(max(most, 1))
+            if place + 4 <= len(file):
+                word = struct.unpack_from("<I", file, place)[0]
+                word += rng.choice((1, -1, 2, 4, PAGE, -PAGE, 2**31, -word, edge(rng)))
+                struct.pack_into("<I", file, place, word % 2**32)
+        elif kind == 4:
+            image = mutated(rng, frame.input_bytes)[:frame.input]
+            file[0x1000:0x1000 + len(image)] = image
+        else:
+            del file[rng.choice((rng.randrange(len(file) + 1), len(file) - PAGE)):]
+            file += bytes(rng.choice((0, 0, 1, PAGE)))
+    return bytes(file)
+
+
+def judge_output(check, file):
+    """One file that may have a frame: what is in it is extracted and upgraded, each answer compared."""
+    write("in", file), write("out", OLD)
+    status, text, image = oracles.extracted(file)
+    check.count("no frame" if image is None else "a frame")
+    check.want("extract", check.run("extract", "in", "out"), (status, text))
+    check.want("OUT of extract", read("out") == (OLD if image is None else image), True)
+    fault = image is not None and oracles.fault(image)
+    if image is None or fault:
+        write("out", OLD)
+        wanted = (5, f"multiverse: bad image: {fault}\n") if fault else (status, text)
+        check.want("upgrade", check.run("upgrade", "in", "out"), wanted)
+        check.want("OUT of a refusal", read("out"), OLD)
+    elif executable(image) <= LARGE:
+        upgraded(check, oracles.read_frame(file), image)
+
+
+def upgraded(check, frame, image):
+    """An image without a fault, in a frame: upgraded to what it is rewritten to by the frame's rule."""
+    option = oracles.option(frame)
+    write("was", image), write("new", OLD), write("out", OLD)
+    wanted = check.run("rewrite", "was", "new", option or "--count=none")
+    given = check.run("upgrade", "in", "out")
+    output = bytearray(read("new"))
+    if wanted[0] == 0:
+        struct.pack_into("<I", output, oracles.RULE_PLACE, frame.rule)  # listed addresses are a rule where none is listed, too
+    if option:
+        check.want("upgrade", given, wanted)
+        check.want("what is upgraded", read("out") == output, True)
+    elif given[0] not in (0, 6):
+        check.differ(f"upgrade: {given}", "in")
+
+
 # Words and logs.
 
 PARTS = ("rewrite", "trace", "list", "sample", "in", "out", "log", "", "-", "--", "--count", "--count=all", "--count=none", "--count=",
@@ -267,15 +381,15 @@ def judge_words(check, words):
         check.count("no command")
 
 
-FREE = ("rewrite", "trace", "list", "sample")
+FREE = ("rewrite", "trace", "list", "sample", "extract", "upgrade")
 
 
 def some_words(rng):
-    shape = rng.choice(("any", "rewrite", "trace", "list", "sample"))
+    shape = rng.choice(("any", *FREE))
     if shape == "any":
         return rng.choices(PARTS, k=rng.randrange(6))
     words = {"rewrite": ["rewrite", "in", "out"], "trace": ["trace", "in", "log", "9"], "list": ["list", "in"],
-             "sample": ["sample", "7", "100", "out"]}[shape]
+             "sample": ["sample", "7", "100", "out"], "extract": ["extract", "in", "out"], "upgrade": ["upgrade", "in", "out"]}[shape]
     if shape == "rewrite" and rng.random() < .7:
         words.append(rng.choice([part for part in PARTS if part.startswith("--count")]))
     for _ in range(rng.choice((0, 1, 1, 2))):
@@ -325,29 +439,54 @@ def devices(check):
     """Files and outputs that can't be had."""
     image = oracles.small_image(bytes.fromhex("b801000000bb07000000cd80"))
     write("in", image), write("log", b"log 1\ngone\n"), os.makedirs("folder", exist_ok=True)
+    check.run("rewrite", "in", "whole")
     missing = "multiverse: cannot read {}\n".format
     for words, name in ((("rewrite", "no", "out"), "no"), (("rewrite", "folder", "out"), "folder"), (("list", "no"), "no"),
-                        (("trace", "no", "nolog", "1"), "no"), (("trace", "in", "nolog", "1"), "nolog"), (("trace", "folder", "log", "1"), "folder")):
+                        (("trace", "no", "nolog", "1"), "no"), (("trace", "in", "nolog", "1"), "nolog"), (("trace", "folder", "log", "1"), "folder"),
+                        (("extract", "no", "out"), "no"), (("extract", "folder", "folder"), "folder"),
+                        (("upgrade", "no", "no/out"), "no")):
         check.want(words, check.run(*words), (3, missing(name)))
-    for words in (("rewrite", "in", "folder"), ("sample", "1", "9", "folder"), ("rewrite", "in", "no/out"), ("sample", "1", "9", "no/out")):
-        check.want(words, check.run(*words), (4, f"multiverse: cannot write {words[-1]}\n"))
+    for words in (("rewrite", "in"), ("sample", "1", "9"), ("extract", "whole"), ("upgrade", "whole")):
+        for name in ("folder", "no/out"):
+            check.want((*words, name), check.run(*words, name), (4, f"multiverse: cannot write {name}\n"))
+    for words in (("extract", "in", "folder"), ("upgrade", "in", "no/out")):
+        check.want(words, check.run(*words), (13, "multiverse: no frame\n"))
     with open("/dev/full", "wb") as full:
-        for words in (("rewrite", "in", "out"), ("trace", "in", "log", "9"), ("list", "in"), ("sample", "1", "9", "out")):
+        for words in (("rewrite", "in", "out"), ("trace", "in", "log", "9"), ("list", "in"), ("sample", "1", "9", "out"),
+                      ("extract", "whole", "out"), ("upgrade", "whole", "out")):
             write("out", OLD)
             check.want(f"{words} into /dev/full", check.run(*words, out=full)[0], 9)
-            if "out" in words and not oracles.read_frame(read("out")):
+            if "out" in words and not (read("out") == image if words[0] == "extract" else oracles.read_frame(read("out"))):
                 check.differ(f"{words}: OUT isn't whole")
-        for words, status in ((("rewrite",), 2), (("list", "no"), 3), (("rewrite", "in", "folder"), 4)):
+        for words, status in ((("rewrite",), 2), (("list", "no"), 3), (("rewrite", "in", "folder"), 4), (("extract", "in", "out"), 13),
+                              (("upgrade", "in", "out"), 13)):
             check.want(f"{words} into /dev/full", check.run(*words, out=full)[0], status)
+    for command, wanted in (("extract", image), ("upgrade", read("whole"))):
+        write("out", read("whole"))
+        check.want(f"{command} in place", check.run(command, "out", "out")[0], 0)
+        check.want(f"OUT of {command} in place", read("out") == wanted, True)
+    large_files(check, image)
+
+
+def large_files(check, image):
+    """Files at the limit of what is read, and above it."""
     with open("large", "wb") as large:
         large.truncate(FILE_LIMIT + 1)
-    for words in (("rewrite", "large", "out"), ("list", "large"), ("trace", "large", "log", "1"), ("trace", "in", "large", "1")):
-        check.want(words, check.run(*words), (10, "multiverse: too large: large above 67108864\n"))
-    check.want("IN before LOG", check.run("trace", "large", "nolog", "1"), (3, missing("nolog")))
+    too_large = 10, f"multiverse: too large: large above {FILE_LIMIT}\n"
+    for words in (("rewrite", "large", "out"), ("list", "large"), ("trace", "large", "log", "1"), ("trace", "in", "large", "1"),
+                  ("extract", "large", "folder"), ("upgrade", "large", "folder")):
+        check.want(words, check.run(*words), too_large)
+    check.want("IN before LOG", check.run("trace", "large", "nolog", "1"), (3, "multiverse: cannot read nolog\n"))
     with open("large", "r+b") as large:
         large.truncate(FILE_LIMIT)
         large.write(image)
     check.want("the largest file", check.run("rewrite", "large", "out")[0], 0)
+    os.replace("out", "large")
+    check.want("its output", check.run("extract", "large", "out"), too_large)
+    size = FILE_LIMIT - len(without_entries(WRITTEN_VERSION, b"", [12]))
+    write("large", without_entries(WRITTEN_VERSION, image + bytes(size - len(image)), [12]))
+    check.want("the largest input", check.run("extract", "large", "out"), (0, f"input {size}\n"))
+    check.want("the length of the largest input", os.path.getsize("out"), size)
     os.remove("large"), os.remove("out")
 
 
@@ -360,13 +499,42 @@ def tables(check):
     log = b"log 1\narg 61\n"
     for length in range(len(log) + 1):
         judge_log(check, log[:length])
-    judge(check, small), (output := read("out"))
-    for length in [*range(0, len(output), 512), *range(0x900, 0x960)]:
-        check.want("a front's frame", oracles.read_frame(output[:length]), None)
     for memsz in (CODE_LIMIT, CODE_LIMIT + 1):
         judge(check, small[:72] + struct.pack("<I", memsz) + small[76:])
     for size, number in ((1, 0), (4, 0), (1048576, 7)):
         samples(check, number, size)
+
+
+def outputs(check):
+    """Outputs to start from: one for each rule, as both versions have it, and those of older programs."""
+    image, made = oracles.small_image(bytes.fromhex("e802000000f490f9e301f4b80100000075fecd80c3")), []
+    write("in", image)
+    for rule in ("at:08048054,0804805b,08048061", *RULES[:-1]):
+        check.run("rewrite", "in", "out", f"--count={rule}")
+        output = read("out")
+        if not oracles.read_frame(output):
+            check.differ(f"an output by {rule} has no frame", "in")
+            continue
+        made += [output, remade(output, 1)]
+    return made + [read(path) for path in sorted(glob.glob(os.path.join(HERE, "upgrade.d", "*.v1")))]
+
+
+def cut_and_changed(check, made):
+    """Fronts of an output, outputs with each field changed, and frames at the limits of their version."""
+    small = oracles.small_image(bytes.fromhex("b801000000bb07000000cd80"))
+    for file in made[:1]:
+        for length in [*range(0, len(file), 512), *range(0x900, 0x960), len(file) - 1]:
+            judge_output(check, file[:length])
+        judge_output(check, file + b"\0")
+    for file in (*made[:2], *[file for file in made if oracles.read_frame(file).form == 1][:1]):
+        judge_output(check, file)
+        for other in changed_fields(file):
+            judge_output(check, other)
+    for version, (_, _, most_input, most_code) in VERSIONS.items():
+        for lengths in ([most_code], [most_code + 1], [17 << 20], [most_code - 2, 2], [most_code - 1, 2], [1] * 64, [1] * 65, []):
+            judge_output(check, without_entries(version, small, lengths))
+        for length in (most_input, most_input + 1) if most_input < FILE_LIMIT else ():
+            judge_output(check, without_entries(version, small + bytes(length - len(small)), [12]))
 
 
 def samples(check, number, size):
@@ -386,19 +554,23 @@ def main():
     seconds, seed = (float(more[0]) if more else 20), (int(more[1]) if len(more) > 1 else 20181201)
     check, started = Check(os.path.abspath(multiverse), folder, seed), bases()
     devices(check), tables(check)
+    made = outputs(check)
+    cut_and_changed(check, made)
     for image in started:
-        judge(check, image)
+        judge(check, image), judge_output(check, image)
     end, rng = time.monotonic() + seconds, check.rng
     while time.monotonic() < end:
-        kind = rng.randrange(10)
+        kind = rng.randrange(12)
         if kind < 5:
             judge(check, mutated(rng, rng.choice(started)), some_log(rng) if rng.random() < .2 else b"log 1\n")
         elif kind < 7:
             judge(check, invented(rng))
         elif kind < 8:
             judge_words(check, some_words(rng))
-        else:
+        elif kind < 10:
             judge_log(check, some_log(rng))
+        else:
+            judge_output(check, changed(rng, rng.choice(made)) if rng.random() < .9 else mutated(rng, rng.choice(started)))
     for line in check.bad[:SHOWN]:
         print(f"checks/hostile: {line}")
     kinds = ", ".join(f"{kind} {n}" for kind, n in sorted(check.kinds.items()))

@@ -2,9 +2,10 @@
 says what the program must answer, and reads nothing of the program's."""
 import re, struct
 
-PAGE, FILE_LIMIT, CODE_LIMIT, MAPPED_LIMIT, TOP = 4096, 67108864, 4194304, 67108864, 0xFFFFF000
+PAGE, FILE_LIMIT, CODE_LIMIT, MAPPED_LIMIT, TOP = 4096, 268435456, 16777216, 67108864, 0xFFFFF000
 BLOCK_FROM, BLOCK_TO, STACK_FROM, STACK_TO = 0x00100000, 0xB0000000, 0xBFEFF000, 0xBFFFF000
 LOAD, DYNAMIC, INTERP, X, W, R = 1, 2, 3, 1, 2, 4
+RULES = "none", "all", "calls", "returns", "branches", "system", "at"
 
 
 def up(n):
@@ -22,7 +23,7 @@ def is_decimal(word, most):
 
 
 def is_rule(word):
-    if word in ("none", "all", "calls", "returns", "branches", "system"):
+    if word in RULES[:-1]:
         return True
     if not re.fullmatch(r"at:[0-9a-f]{8}(,[0-9a-f]{8})*", word):
         return False
@@ -41,6 +42,8 @@ def is_command(words):
         return len(rest) == 3 and is_name(rest[0]) and is_name(rest[1]) and is_decimal(rest[2], 2**64 - 1)
     if name == "list":
         return len(rest) == 1 and is_name(rest[0])
+    if name in ("extract", "upgrade"):
+        return len(rest) == 2 and all(map(is_name, rest))
     if name == "sample":
         return (len(rest) == 3 and is_decimal(rest[0], 2**32 - 1) and is_decimal(rest[1], 1048576) and rest[1] != "0"
                 and is_name(rest[2]))
@@ -195,18 +198,29 @@ def bad_line(log):
 
 # Frames.
 
+MAGIC, RULE_AT = 0x5246564D, RULES.index("at")
+RULE_PLACE = 0x900 + 4 * 16
+# of a version: the words in front of the runs, a counter's bytes in the list, the most bytes of an input and of all runs together
+VERSIONS = {1: (16, 4, 67108864, 4194304), 2: (18, 8, 268435456, 16777216)}
+
+
 class Frame:
-    """The frame of a file."""
+    """The frame of a file. Its list has the address and the kind of each counter."""
 
     def __init__(self, words, file):
-        (self.form, self.input, self.lo, self.length, self.code, self.code_len, self.table, self.table_len, self.private, _,
-         self.first, self.counters, self.list_at, count) = words[2:16]
-        self.runs = [tuple(words[16 + 3 * k:19 + 3 * k]) for k in range(count)]
+        (self.version, self.form, self.input, self.lo, self.length, self.code, self.code_len, self.table, self.table_len,
+         self.private, _, self.first, self.counters, self.list_at, count) = words[1:16]
+        fixed, listed, _, _ = VERSIONS[self.version]
+        self.rule, self.edge_rule = words[16:18] if self.version == 2 else (RULE_AT, 0)
+        self.runs = [tuple(words[fixed + 3 * k:fixed + 3 * k + 3]) for k in range(count)]
         self.at = 0x1000 + up(self.input)
+        self.input_bytes = file[0x1000:0x1000 + self.input]
         self.code_bytes = file[self.at:self.at + self.code_len]
         table = self.at + up(self.code_len)
         self.table_bytes = file[table:table + self.table_len]
-        self.list = list(struct.unpack(f"<{self.counters}I", self.table_bytes[self.table_len - 4 * self.counters:]))
+        self.before_list = self.table_len - listed * self.counters
+        list_words = struct.unpack(f"<{listed * self.counters // 4}I", self.table_bytes[self.before_list:])
+        self.list = list(zip(list_words[::2], list_words[1::2])) if self.version == 2 else [(at, 0) for at in list_words]
 
     def word(self, address):
         return struct.unpack_from("<I", self.table_bytes, address - self.table)[0]
@@ -222,7 +236,7 @@ class Frame:
 
 
 def inside(frame, place, length):
-    return frame.table <= place and place + length <= frame.table + frame.table_len - 4 * frame.counters
+    return frame.table <= place and place + length <= frame.table + frame.before_list
 
 
 def read_frame(file):
@@ -231,15 +245,18 @@ def read_frame(file):
         return None
     words = list(struct.unpack("<448I", file[0x900:0x1000]))
     magic, version, form, size, lo, length, code, code_len, table, table_len, private, room, first, counters, list_at, count = words[:16]
-    if (magic, version) != (0x5246564D, 1) or form not in (1, 2) or count > 64 or size > FILE_LIMIT:
+    if magic != MAGIC or (version, form) not in ((1, 1), (1, 2), (2, 2)):
         return None
+    _, listed, most_input, most_code = VERSIONS[version]
     places = (lo == code and lo % PAGE == 0 and table == lo + up(code_len) and private == table + up(table_len) and room == 64
               and first == private + 64 and length == up(code_len) + up(table_len) + up(64 + 8 * counters)
-              and lo + length <= BLOCK_TO and list_at == table + table_len - 4 * counters and 4 * counters <= table_len
+              and lo + length <= BLOCK_TO and list_at == table + table_len - listed * counters and listed * counters <= table_len
               and len(file) == 0x1000 + up(size) + up(code_len) + up(table_len))
-    if not places:
+    if count > 64 or size > most_input or not places:
         return None
     frame, free = Frame(words, file), 0
+    if frame.rule > 6 or frame.edge_rule not in (0, 1, 6) or any(kind > 2 for _, kind in frame.list):
+        return None
     for k, (run, bytes_, place) in enumerate(frame.runs):
         if bytes_ == 0 or run + bytes_ > TOP or (k > 0 and run <= free):
             return None
@@ -249,7 +266,23 @@ def read_frame(file):
             return None
         if form == 2 and not all(inside(frame, frame.word(place + 4 * k), 4096) for k in range(groups)):
             return None
-    return frame if sum(length for _, length, _ in frame.runs) <= CODE_LIMIT else None
+    return frame if sum(length for _, length, _ in frame.runs) <= most_code else None
+
+
+def extracted(file):
+    """What `extract` answers of a file: status, text, and what OUT then has; None where that is what it had."""
+    frame = read_frame(file)
+    return (0, f"input {frame.input}\n", frame.input_bytes) if frame else (13, "multiverse: no frame\n", None)
+
+
+def option(frame):
+    """The option by which `rewrite` counts what a frame's rule picks; None where that has more addresses than an option may have."""
+    if frame.rule != RULE_AT:
+        return f"--count={RULES[frame.rule]}"
+    addresses = sorted({at for at, kind in frame.list if kind == 0})
+    if not addresses:
+        return "--count=none"
+    return "--count=at:" + ",".join(f"{at:08x}" for at in addresses) if len(addresses) <= 1024 else None
 
 
 # Samples.

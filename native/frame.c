@@ -3,6 +3,7 @@
 #include "frame.h"
 
 #include <elf.h>
+#include <stddef.h>
 #include <stdlib.h>
 #include <string.h>
 #include <sys/stat.h>
@@ -12,17 +13,16 @@ enum {
   PAGE = 4096,
   HEAD_LENGTH = 0x1000, /* the input stands behind the head */
   RECORD_OFFSET = 0x900,
-  RECORD_VERSION = 1,
   PRIVATE_LENGTH = 64,
   COUNTER_LENGTH = 8,
   WORD = 4,
   MOST_RUNS = 64,
   MOST_HEADERS = 64,
   GROUP = 1024, /* addresses that one page of the table serves */
-  MOST_INPUT = 67108864,
-  MOST_CODE = 4194304,
+  MOST_KIND = 2, /* of a counter */
 };
 enum { FLAT = 1, PAGED = 2 };
+enum { RULE_NONE = 0, RULE_ALL = 1, RULE_AT = 6 };
 #define MAGIC 0x5246564du /* 4D 56 46 52 */
 #define BLOCK_END 0xb0000000u
 #define ADDRESS_END 0xfffff000u
@@ -31,13 +31,20 @@ struct run {
   uint32_t lo, length, part; /* `part` is the address of its part of the table */
 };
 
-/* The frame record, word by word. */
+/* The frame record of version 2, word by word. Version 1 has no rules: its runs stand in their place. */
 struct record {
   uint32_t magic, version, form, input_length;
   uint32_t added_lo, added_length, code_lo, code_length, table_lo, table_length;
   uint32_t private_lo, private_length, first_counter, counters, counted_list, run_count;
+  uint32_t rule, edge_rule;
   struct run runs[MOST_RUNS];
 };
+
+/* What a version of the record allows, in bytes: an input, all runs together, and a counter's part of the list. */
+struct limits {
+  uint32_t input, code, listed;
+};
+static const struct limits LIMITS[] = {[1] = {67108864, 4194304, WORD}, [2] = {268435456, 16777216, 2 * WORD}};
 
 struct frame {
   struct record record;
@@ -52,16 +59,27 @@ static bool read_at(int file, void *to, size_t length, uint64_t offset) {
   return pread(file, to, length, (off_t)offset) == (ssize_t)length;
 }
 
+static bool is_known(const struct record *r) {
+  return r->magic == MAGIC &&
+         ((r->version == 1 && (r->form == FLAT || r->form == PAGED)) || (r->version == 2 && r->form == PAGED));
+}
+
+/* The limits of a record whose version is known. */
+static const struct limits *limits_of(const struct record *r) { return &LIMITS[r->version]; }
+
 static bool places_hold(const struct record *r, uint64_t file_length) {
   uint64_t table = r->code_lo + up(r->code_length), private_ = table + up(r->table_length);
   uint64_t end = private_ + up(PRIVATE_LENGTH + (uint64_t)COUNTER_LENGTH * r->counters);
-  return r->magic == MAGIC && r->version == RECORD_VERSION && (r->form == FLAT || r->form == PAGED) &&
-         r->input_length <= MOST_INPUT && r->run_count <= MOST_RUNS && r->added_lo % PAGE == 0 &&
+  return r->input_length <= limits_of(r)->input && r->run_count <= MOST_RUNS && r->added_lo % PAGE == 0 &&
          r->code_lo == r->added_lo && r->table_lo == table && r->private_lo == private_ &&
          r->private_length == PRIVATE_LENGTH && r->first_counter == private_ + PRIVATE_LENGTH &&
          end <= BLOCK_END && r->added_length == end - r->added_lo && r->counted_list >= table &&
-         r->counted_list + (uint64_t)WORD * r->counters == table + r->table_length &&
+         r->counted_list + (uint64_t)limits_of(r)->listed * r->counters == table + r->table_length &&
          file_length == HEAD_LENGTH + up(r->input_length) + up(r->code_length) + up(r->table_length);
+}
+
+static bool rules_hold(const struct record *r) {
+  return r->rule <= RULE_AT && (r->edge_rule == RULE_NONE || r->edge_rule == RULE_ALL || r->edge_rule == RULE_AT);
 }
 
 static bool runs_hold(const struct record *r) {
@@ -73,7 +91,7 @@ static bool runs_hold(const struct record *r) {
     free_from = end + 1;
     total += run->length;
   }
-  return total <= MOST_CODE;
+  return total <= limits_of(r)->code;
 }
 
 static bool in_table(const struct record *r, uint32_t address, uint64_t length) {
@@ -96,6 +114,15 @@ static bool parts_hold(const struct frame *frame) {
     for (uint32_t group = 0; r->form == PAGED && group < groups; group++)
       if (!in_table(r, table_word(frame, run->part + WORD * group), WORD * GROUP)) return false;
   }
+  return true;
+}
+
+/* The list has an address for each counter, and in version 2 a kind behind it. */
+static bool kinds_hold(const struct frame *frame) {
+  const struct record *r = &frame->record;
+  uint32_t listed = limits_of(r)->listed;
+  for (uint32_t k = 0; listed > WORD && k < r->counters; k++)
+    if (table_word(frame, r->counted_list + listed * k + WORD) > MOST_KIND) return false;
   return true;
 }
 
@@ -130,11 +157,19 @@ static bool read_original(int file, uint32_t input_length, struct original *orig
   return true;
 }
 
+/* Gives a record of version 1 the rules that it means, listed addresses and no edges, and its runs their place. */
+static void add_rules(struct record *record) {
+  memmove(record->runs, (char *)record + offsetof(struct record, rule), sizeof record->runs);
+  record->rule = RULE_AT;
+  record->edge_rule = RULE_NONE;
+}
+
 static bool read_record(int file, struct record *record) {
   struct stat about;
-  return fstat(file, &about) == 0 && about.st_size >= HEAD_LENGTH &&
-         read_at(file, record, sizeof *record, RECORD_OFFSET) && places_hold(record, (uint64_t)about.st_size) &&
-         runs_hold(record);
+  if (fstat(file, &about) != 0 || about.st_size < HEAD_LENGTH) return false;
+  if (!read_at(file, record, sizeof *record, RECORD_OFFSET) || !is_known(record)) return false;
+  if (record->version == 1) add_rules(record);
+  return places_hold(record, (uint64_t)about.st_size) && rules_hold(record) && runs_hold(record);
 }
 
 static bool read_table(int file, struct frame *frame) {
@@ -143,7 +178,7 @@ static bool read_table(int file, struct frame *frame) {
   frame->is_entry = calloc(r->code_length / 8 + 1, 1);
   return frame->table && frame->is_entry &&
          read_at(file, frame->table, r->table_length, HEAD_LENGTH + up(r->input_length) + up(r->code_length)) &&
-         parts_hold(frame);
+         kinds_hold(frame) && parts_hold(frame);
 }
 
 struct frame *frame_read(int file) {

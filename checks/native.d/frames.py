@@ -1,5 +1,6 @@
 """Makes files with frames after docs/FORMATS.md, and files that break one rule each, and compares what the program `show_frame`
 (its path is the first word) reads of them. Reads nothing of this project's outputs."""
+import itertools
 import random
 import struct
 import subprocess
@@ -9,6 +10,9 @@ import tempfile
 PAGE, RECORD, BASE, RUN_LIMIT = 0x1000, 0x900, 0x00200000, 0xFFFFF000
 NAMES = ["magic", "version", "form", "input", "added", "added_length", "code", "code_length", "table", "table_length",
          "private", "private_length", "first_counter", "counters", "list", "runs"]
+RULES = ["rule", "edge_rule"]  # only in version 2
+FORMS = [(1, 1), (1, 2), (2, 2)]  # version and form
+LIMITS = {1: (67108864, 4194304), 2: (268435456, 16777216)}  # of a version: an input's bytes, and those of all runs
 
 
 def words(*numbers):
@@ -27,14 +31,14 @@ def original(offset, address):
     return header + segments + b"rest"
 
 
-def table_of(form, runs, entries, at, counted):
+def table_of(form, runs, entries, at, listed):
     """the table's bytes, and the address of each run's part"""
     if form == 1:
         parts, data = [], b""
         for lo, length in runs:
             parts.append(at + len(data))
             data += words(*(entries.get(lo + k, 0) for k in range(length)))
-        return data + words(*counted), parts
+        return data + listed, parts
     groups = [[(lo + k, min(1024, length - k)) for k in range(0, length, 1024)] for lo, length in runs]
     place = at + PAGE + 4 * sum(map(len, groups))
     directories, pages, parts = b"", b"", []
@@ -44,17 +48,20 @@ def table_of(form, runs, entries, at, counted):
             page = [entries.get(lo + k, 0) if k < length else 0 for k in range(1024)]
             directories += words(place + len(pages) if any(page) else at)
             pages += words(*page) if any(page) else b""
-    return bytes(PAGE) + directories + pages + words(*counted), parts
+    return bytes(PAGE) + directories + pages + listed, parts
 
 
-def build(form, runs, entries, code_length, counted, image):
+def build(version, form, runs, entries, code_length, counted, image, rules=(0, 0)):
+    """the record, the runs, the table and the image; a counter is an address and a kind, which version 1 doesn't have"""
     up = lambda n: -(-n // PAGE) * PAGE
     at = BASE + up(code_length)
-    table, parts = table_of(form, runs, entries, at, counted)
+    listed = b"".join(words(*counter[:version]) for counter in counted)
+    table, parts = table_of(form, runs, entries, at, listed)
     private = at + up(len(table))
     end = private + up(64 + 8 * len(counted))
-    record = dict(zip(NAMES, [0x5246564D, 1, form, len(image), BASE, end - BASE, BASE, code_length, at, len(table), private,
-                              64, private + 64, len(counted), at + len(table) - 4 * len(counted), len(runs)]))
+    record = dict(zip(NAMES, [0x5246564D, version, form, len(image), BASE, end - BASE, BASE, code_length, at, len(table), private,
+                              64, private + 64, len(counted), at + len(table) - len(listed), len(runs)]))
+    record.update(zip(RULES, rules if version == 2 else ()))
     return record, [[*run, part] for run, part in zip(runs, parts)], table, image
 
 
@@ -76,15 +83,17 @@ def compare(title, got, wanted):
         sys.exit(f"frames: {title}: {got[:4]} in place of {wanted[:4]}")
 
 
-def random_frame(form, count):
+def random_frame(version, form, count):
     runs, at = [], random.randrange(0x400000, 0x10000000)
     for _ in range(count):
         runs.append((at, random.choice([1, 7, 1024, 1025, random.randrange(1, 3000)])))
         at += runs[-1][1] + random.choice([1, 2, 5000])
     sites = sorted(random.sample([a for lo, n in runs for a in range(lo, lo + n)], min(400, sum(n for _, n in runs))))
     entries = {a: BASE + 91 + 16 * k for k, a in enumerate(sites)}
-    counted = sites[:random.choice([0, 3])]
-    return build(form, runs, entries, 91 + 16 * len(sites) + 5, counted, original(0, 0x08048000)), runs, entries
+    counted = [(a, random.randrange(3)) for a in sites[:random.choice([0, 3])]]
+    rules = random.randrange(7), random.choice([0, 1, 6])
+    frame = build(version, form, runs, entries, 91 + 16 * len(sites) + 5, counted, original(0, 0x08048000), rules)
+    return frame, runs, entries
 
 
 def row(at, entry, code_length, starts):
@@ -94,22 +103,63 @@ def row(at, entry, code_length, starts):
 
 
 def reads(program):
-    for form in (1, 2):
+    """random tables, each with the entries that it was made of; how many"""
+    tables = 0
+    for version, form in FORMS:
         for count in (1, 2, 5, 64):
-            frame, runs, entries = random_frame(form, count)
+            frame, runs, entries = random_frame(version, form, count)
             length, starts = frame[0]["code_length"], set(entries.values())
             asked = random.sample(sorted(entries), min(20, len(entries)))
             asked += [a for lo, n in runs[:9] for a in (lo - 1, lo, lo + n - 1, lo + n)]
             asked += [BASE - 1, BASE, BASE + 90, BASE + length - 1, BASE + length, 0, 0xFFFFFFFF]
             asked += random.sample(range(BASE, BASE + length), 20)
             wanted = ["8048034 2 8049123"] + [row(a, entries.get(a, 0), length, starts) for a in asked]
-            compare(f"form {form}, {count} runs", shown(program, file_of(*frame), *asked), wanted)
+            compare(f"version {version}, form {form}, {count} runs", shown(program, file_of(*frame), *asked), wanted)
+            tables += 1
+    return tables
 
 
 def places_of_headers(program):
     for offset, address, wanted in [(0, 0x08048000, 0x08048034), (0x34, 0x09000034, 0x09000034), (0x35, 0x09000035, 0)]:
-        frame = build(2, [(0x8050000, 16)], {0x8050000: BASE + 91}, 200, [], original(offset, address))
-        compare(f"headers from {offset:x}", shown(program, file_of(*frame)), [f"{wanted:x} 2 8049123"])
+        for version in (1, 2):
+            frame = build(version, 2, [(0x8050000, 16)], {0x8050000: BASE + 91}, 200, [], original(offset, address))
+            compare(f"headers from {offset:x}", shown(program, file_of(*frame)), [f"{wanted:x} 2 8049123"])
+
+
+def at_limits():
+    """files at the limits of their version, each with a title and whether it keeps the rules"""
+    image, at = original(0, 0x08048000), 0x8050000
+    for version, (most_input, most_code) in LIMITS.items():
+        for length, keeps in [(most_code, True), (most_code + 1, False), (17 << 20, False)]:
+            yield f"version {version}, {length} bytes of runs", keeps, file_of(*build(version, 2, [(at, length)], {}, 200, [], image))
+        for length, keeps in [(most_input, True), (most_input + 1, False)]:
+            frame = build(version, 2, [(at, 16)], {}, 200, [], image + bytes(length - len(image)))
+            yield f"version {version}, input of {length} bytes", keeps, file_of(*frame)
+
+
+def of_version_2():
+    """files of version 2 with other rules and kinds, each with a title and whether it keeps the rules of a frame"""
+    def made(version=2, form=2, kind=0, rules=(0, 0)):
+        counted = [(0x8050000, 0), (0x8050000, kind)]
+        return build(version, form, [(0x8050000, 16)], {0x8050000: BASE + 91}, 200, counted, original(0, 0x08048000), rules)
+    for kind in (0, 1, 2, 3, 0x100, 0xFFFFFFFF):
+        yield f"kind {kind}", kind <= 2, file_of(*made(kind=kind))
+    for rule in (*range(9), 0x106, 0xFFFFFFFF):
+        yield f"rule {rule}", rule <= 6, file_of(*made(rules=(rule, 0)))
+        yield f"edge rule {rule}", rule in (0, 1, 6), file_of(*made(rules=(0, rule)))
+    yield "form 1", False, file_of(*made(form=1))
+    for like, version in [(1, 0), (1, 3), (2, 0), (2, 3)]:
+        record, *rest = made(like)
+        yield f"version {version}, a record as of version {like}", False, file_of({**record, "version": version}, *rest)
+
+
+def judges(program):
+    """files that keep the rules of a frame, and files that just don't; how many don't"""
+    broken = 0
+    for title, keeps, data in itertools.chain(of_version_2(), at_limits()):
+        compare(title, shown(program, data), ["8048034 2 8049123"] if keeps else ["none"])
+        broken += not keeps
+    return broken
 
 
 def refuses(program):
@@ -119,12 +169,13 @@ def refuses(program):
         nonlocal broken
         broken += 1
         compare(title, shown(program, data), ["none"])
-    for form in (1, 2):
-        (record, runs, table, image), _, _ = random_frame(form, 5)
+    for version, form in FORMS:
+        (record, runs, table, image), _, _ = random_frame(version, form, 5)
         data = file_of(record, runs, table, image)
-        for k, name in enumerate(NAMES):
+        for k, name in enumerate(record):
             for change in (1, -1, 0x1000, 0x80000000, 64):
-                if abs(change) < PAGE and name in ("input", "code_length") or change == -1 and name in ("form", "runs"):
+                if (abs(change) < PAGE and name in ("input", "code_length") or abs(change) == 1 and name in RULES
+                        or change == -1 and name in ("runs", "form" if version == 1 else "")):
                     continue  # these may keep the rules
                 at = RECORD + 4 * k
                 none(f"{name} + {change:x}", data[:at] + words(record[name] + change) + data[at + 4:])
@@ -145,6 +196,6 @@ def refuses(program):
 
 
 random.seed(1)
-reads(sys.argv[1])
+tables = reads(sys.argv[1])
 places_of_headers(sys.argv[1])
-print(f"frames: 8 tables read, and {refuses(sys.argv[1])} files refused that break a rule")
+print(f"frames: {tables} tables read, and {refuses(sys.argv[1]) + judges(sys.argv[1])} files refused that break a rule")
