@@ -75,7 +75,7 @@ load_refusal b =
 abbrev pub code_size : List Segment → ℕ
 code_size ss = sum_by (λ s. if s.exec then s.range.len else 0) ss
 
--- the limits of what is rewritten: 4 MiB of code, and 61 headers so that three more can be added
+-- the limits of what is rewritten: 16 MiB of code, and 61 headers so that three more can be added
 unfoldable pub limit_fault : List ℕ → Option ImageFault
 limit_fault b = or_else (fault_if (nat_lt 16777216 (code_size (segments b))) CodeTooLarge) (fault_if (nat_lt 61 (header_count b)) HeadersFull)
 

@@ -95,11 +95,11 @@ fn names_the_first_fault(rt: HostRuntime) {
 
 #[test]
 fn keeps_to_the_limits(rt: HostRuntime) -> Result<(), Fail> {
-    let large = edited(ONE_HEADER, [(72, 1), (74, 0x40)]);
+    let large = edited(ONE_HEADER, [(72, 1), (75, 1)]);
     let image = read_image(rt.alloc(), &large)?;
     assert_eq!(rt; admit(&image), Err(ImageFault::CodeTooLarge));
 
-    let most = edited(ONE_HEADER, [(72, 0), (74, 0x40)]);
+    let most = edited(ONE_HEADER, [(72, 0), (75, 1)]);
     let image = read_image(rt.alloc(), &most)?;
     assert_eq!(rt; admit(&image), Ok(()));
 

@@ -2,7 +2,7 @@
 use Rattle.std.proofs.Common.{◌≡◌, ℕ, List, ◌∷◌, Option, Some, None, IsSomeAnd, IsTrue, sym, ◌∙◌, refl, subst, inl, inr}
 use Rattle.std.specs.List.{Contains}
 use Rattle.mv_base.specs.declared.status.Status.{Status}
-use Rattle.mv_base.specs.declared.status.Status.TheVariants.{Done, Usage, ReadFault, WriteFault, BadImage, NoRoom, BadLog, NoMemory, SinkFault, TooLarge}
+use Rattle.mv_base.specs.declared.status.Status.TheVariants.{Done, Usage, ReadFault, WriteFault, BadImage, NoRoom, BadLog, NoMemory, SinkFault, TooLarge, NoFrame}
 use Rattle.multiverse_cli.specs.declared.refusal.Defect.{Defect}
 use Rattle.multiverse_cli.specs.Commands.{Lacks, Delivers}
 use Rattle.multiverse_cli.specs.Answers.{IsOversized, AreRead, IsUnwritten, IsLacking, IsNext, IsUnread, HasDelivery, LacksFor, Comes, ComesAt, ComesWithout, FirstDue, IsUnlessMemory, NoneUnread}
@@ -30,6 +30,7 @@ module _ (one : SpellsOne) (a : Asked) (s : Stored) (k : Printed) (t : IsTrue s.
       | inl large ↦ absurd (held-missing s t a.reads name (large-held s a.reads large.0 large.1) among missing)
       | inr lacks ↦ missing-lacks TooLarge lacks
     ]
+    missing-due NoFrame h = missing-lacks NoFrame h
     missing-due BadImage h = missing-lacks BadImage h
     missing-due BadLog h = missing-lacks BadLog h
     missing-due NoRoom h = missing-lacks NoRoom h
@@ -51,6 +52,7 @@ module _ (one : SpellsOne) (a : Asked) (s : Stored) (k : Printed) (t : IsTrue s.
     oversized-due Usage h = absurd h
     oversized-due ReadFault h = absurd (all h.0 h.1)
     oversized-due TooLarge h = inl refl
+    oversized-due NoFrame h = oversized-lacks NoFrame h
     oversized-due BadImage h = oversized-lacks BadImage h
     oversized-due BadLog h = oversized-lacks BadLog h
     oversized-due NoRoom h = oversized-lacks NoRoom h
@@ -83,6 +85,7 @@ module _ (one : SpellsOne) (a : Asked) (s : Stored) (k : Printed) (t : IsTrue s.
       | inl large ↦ absurd (read-large s t a.reads lacking.inputs large.0 lacking.read large.1)
       | inr lacks ↦ lacking-lacks TooLarge lacks
     ]
+    lacking-due NoFrame h = lacking-lacks NoFrame h
     lacking-due BadImage h = lacking-lacks BadImage h
     lacking-due BadLog h = lacking-lacks BadLog h
     lacking-due NoRoom h = lacking-lacks NoRoom h
@@ -108,6 +111,7 @@ module _ (one : SpellsOne) (a : Asked) (s : Stored) (k : Printed) (t : IsTrue s.
       | inl large ↦ absurd (read-large s t a.reads files large.0 read large.1)
       | inr lacks ↦ complete-lacks TooLarge lacks
     ]
+    complete-due NoFrame h = complete-lacks NoFrame h
     complete-due BadImage h = complete-lacks BadImage h
     complete-due BadLog h = complete-lacks BadLog h
     complete-due NoRoom h = complete-lacks NoRoom h
@@ -120,6 +124,7 @@ usage-due Done h = absurd h
 usage-due Usage h = inl refl
 usage-due ReadFault h = absurd h
 usage-due TooLarge h = absurd h
+usage-due NoFrame h = absurd h
 usage-due BadImage h = absurd h
 usage-due BadLog h = absurd h
 usage-due NoRoom h = absurd h

@@ -2,7 +2,7 @@
 use Rattle.std.proofs.Common.{◌≡◌, ℕ, ◌⊎◌, List, [], Option, Some, None, Result, Ok, Err, refl, sym, ◌∙◌, ap, subst, inl, inr, append-nil}
 use Rattle.mv_base.specs.Holding.{KeepsOrBegins}
 use Rattle.mv_base.specs.declared.status.Status.{Status}
-use Rattle.mv_base.specs.declared.status.Status.TheVariants.{Done, Usage, ReadFault, WriteFault, BadImage, NoRoom, BadLog, NoMemory, SinkFault, TooLarge}
+use Rattle.mv_base.specs.declared.status.Status.TheVariants.{Done, Usage, ReadFault, WriteFault, BadImage, NoRoom, BadLog, NoMemory, SinkFault, TooLarge, NoFrame}
 use Rattle.multiverse_cli.specs.declared.failure.Failure.{Failure}
 use Rattle.multiverse_cli.specs.declared.failure.Failure.TheVariants as failure
 use Rattle.multiverse_cli.specs.declared.refusal.Defect.{Defect}
@@ -27,6 +27,7 @@ comes-text Done a s k text is h = (is.delivery, is.is)
 comes-text Usage a s k text is h = absurd h
 comes-text ReadFault a s k text is h = absurd h
 comes-text TooLarge a s k text is h = absurd h
+comes-text NoFrame a s k text is h = absurd h
 comes-text BadImage a s k text is h = absurd h
 comes-text BadLog a s k text is h = absurd h
 comes-text NoRoom a s k text is h = absurd h
@@ -35,6 +36,7 @@ comes-text SinkFault a s k text is h = (h.0, (is.delivery, is.is))
 comes-text NoMemory a s k text is h = tt
 
 comes-defect : (why : Defect) (a : Asked) (s : Stored) (k : Printed) → IsLacking a s why → ComesAt (defect_status why) a s k
+comes-defect defect.NoFrame a s k h = (defect.NoFrame, refl, h)
 comes-defect (defect.BadImage fault) a s k h = (defect.BadImage fault, refl, h)
 comes-defect (defect.BadLog line) a s k h = (defect.BadLog line, refl, h)
 comes-defect (defect.TooLarge size) a s k h = inr (defect.TooLarge size, refl, h)
@@ -91,6 +93,7 @@ leaves-text Done a s k text is h = (is.delivery, is.is, is.stored)
 leaves-text Usage a s k text is h = absurd h
 leaves-text ReadFault a s k text is h = absurd h
 leaves-text TooLarge a s k text is h = absurd h
+leaves-text NoFrame a s k text is h = absurd h
 leaves-text BadImage a s k text is h = absurd h
 leaves-text BadLog a s k text is h = absurd h
 leaves-text NoRoom a s k text is h = absurd h
@@ -99,6 +102,7 @@ leaves-text SinkFault a s k text is h = (is.delivery, is.is, is.stored)
 leaves-text NoMemory a s k text is h = inr (is.delivery, is.is, stored-begun s is.delivery.file is.stored)
 
 leaves-defect : (why : Defect) (a : Asked) (s : Stored) → KeepsAll s → LeavesAt (defect_status why) a s
+leaves-defect defect.NoFrame a s h = h
 leaves-defect (defect.BadImage fault) a s h = h
 leaves-defect (defect.BadLog line) a s h = h
 leaves-defect (defect.TooLarge size) a s h = h
@@ -147,6 +151,7 @@ prints-text Done a s k text is h = (is.delivery, is.is, h)
 prints-text Usage a s k text is h = absurd h
 prints-text ReadFault a s k text is h = absurd h
 prints-text TooLarge a s k text is h = absurd h
+prints-text NoFrame a s k text is h = absurd h
 prints-text BadImage a s k text is h = absurd h
 prints-text BadLog a s k text is h = absurd h
 prints-text NoRoom a s k text is h = absurd h
@@ -157,6 +162,7 @@ prints-text NoMemory a s k text is h = (is.delivery.text, OfDone is.delivery is.
 says-defect :
     (why : Defect) (a : Asked) (s : Stored) (k : Printed) → IsLacking a s why → Says k (defect_message why)
     → PrintsAt (defect_status why) a s k
+says-defect defect.NoFrame a s k h said = (defect.NoFrame, refl, h, said)
 says-defect (defect.BadImage fault) a s k h said = (defect.BadImage fault, refl, h, said)
 says-defect (defect.BadLog line) a s k h said = (defect.BadLog line, refl, h, said)
 says-defect (defect.TooLarge size) a s k h said = inr (defect.TooLarge size, refl, h, said)
@@ -231,6 +237,7 @@ delivers-text Done a s k text is h = record { delivery = is.delivery; is = is.is
 delivers-text Usage a s k text is h = tt
 delivers-text ReadFault a s k text is h = tt
 delivers-text TooLarge a s k text is h = tt
+delivers-text NoFrame a s k text is h = tt
 delivers-text BadImage a s k text is h = tt
 delivers-text BadLog a s k text is h = tt
 delivers-text NoRoom a s k text is h = tt
@@ -239,6 +246,7 @@ delivers-text SinkFault a s k text is h = tt
 delivers-text NoMemory a s k text is h = tt
 
 delivers-defect : (why : Defect) (asked : Option Asked) (s : Stored) (k : Printed) → DeliversAll (defect_status why) asked s k
+delivers-defect defect.NoFrame asked s k = tt
 delivers-defect (defect.BadImage fault) asked s k = tt
 delivers-defect (defect.BadLog line) asked s k = tt
 delivers-defect (defect.TooLarge size) asked s k = tt

@@ -12,7 +12,7 @@ use Rattle.elf32_read.specs.declared.image.Phdr.{Phdr}
 use Rattle.elf32_read.specs.declared.image.Segment.{Segment}
 use Rattle.elf32_read.specs.Faults.{code_size, head_fault, headers_fault, header_fault, segment_fault, load_refusal, limit_fault, refusal}
 use Rattle.elf32_read.specs.Fields.{header_at, header_count, header_offset, headers, segment_of, segments}
-use Rattle.elf32_read.specs.RunCount.{length-runs_of, bytes_len-runs_of, header_count-admitted, code_size-admitted}
+use Rattle.elf32_read.specs.RunCount.{length-runs_of, bytes_len-runs_of, header_count-admitted}
 use Rattle.elf32_read.specs.Runs.{runs_of}
 use Rattle.elf32_read.specs.Segments.{AreApart-runs_of}
 use Rattle.map_table.specs.Paged.{AreRuns}
@@ -147,7 +147,7 @@ module _ (code : List ℕ) (some : 0 < length code) (most : length code ≤ 1048
   within-limits : limit_fault b ≡ None
   unfolding limit_fault
   within-limits =
-      let small : ltb 4194304 (code_size (segments b)) ≡ false = le-ltb 4194304 (code_size (segments b)) (omega (arith, code-size)) in
+      let small : ltb 16777216 (code_size (segments b)) ≡ false = le-ltb 16777216 (code_size (segments b)) (omega (arith, code-size)) in
       let few : ltb 61 (header_count b) ≡ false = le-ltb 61 (header_count b) (omega (arith, count-is)) in
       rw (small, few) refl
 
@@ -161,7 +161,7 @@ module _ (code : List ℕ) (some : 0 < length code) (most : length code ≤ 1048
   runs-are = record {
     few = omega (arith, length-runs_of b, header_count-admitted b within-limits);
     apart = AreApart-runs_of b load-sound;
-    small = omega (arith, bytes_len-runs_of b load-sound, code_size-admitted b within-limits);
+    small = omega (arith, bytes_len-runs_of b load-sound, code-size, most);
   }
 
   laid : AreLaid (runs_of b) (sites b) (chains b)
@@ -263,7 +263,7 @@ made number size start one two three four five low high h0 h1 h2 hl h3 hh h4 h5 
 
 module _ (number size : ℕ) (image : List ℕ) (is : image ≡ sample number size) where
   -- a sample fits into a file that is read
-  pub fits : size ≤ 1048576 → length image ≤ 67108864
+  pub fits : size ≤ 1048576 → length image ≤ 268435456
   fits most = omega (arith, most, ap length is, length-image (code_after number size), length-code size number)
 
   module _ (output : List ℕ) (some : 1 ≤ size) (most : size ≤ 1048576) where

@@ -1,10 +1,14 @@
 -- Over the same files a command has one verdict.
 use Rattle.std.proofs.Common.{◌≡◌, ℕ, List, [], ◌∷◌, Option, Some, None, IsSome, is_some, false, Ok, Err, refl, sym, ◌∙◌, ap, subst, subst₂}
 use Rattle.std.specs.Option.{option_map}
+use Rattle.std.proofs.lemmas.Option.{same_Some}
 use Rattle.elf32_read.specs.declared.fault.ImageFault.{ImageFault}
 use Rattle.elf32_read.specs.Faults.{refusal}
+use Rattle.elf32_write.specs.Frame.{Frame, frame, frame_input}
 use Rattle.counter_hooks.specs.declared.rules.Rule.{Rule}
 use Rattle.mv_rewrite.specs.Layout.{base_of}
+use Rattle.mv_rewrite.specs.Rewriting.{LacksRoom}
+use Rattle.mv_rewrite.specs.Upgrading.{rule_back}
 use Rattle.syscall_log.specs.declared.answer.Answer.{Answer}
 use Rattle.syscall_log.specs.declared.log.Log.{Log}
 use Rattle.syscall_log.specs.Faults.{IsBadLine}
@@ -14,10 +18,10 @@ use Rattle.trace_run.specs.declared.tracing.TraceFault.TheVariants as tracing
 use Rattle.trace_run.specs.Reports.{IsBeyond}
 use Rattle.trace_run.specs.laws.OneTrace.{one_outcome}
 use Rattle.multiverse_cli.specs.declared.refusal.Defect.{Defect}
-use Rattle.multiverse_cli.specs.declared.refusal.Defect.TheVariants.{BadImage, BadLog, TooLarge, NoRoom}
-use Rattle.multiverse_cli.specs.Commands.{NewFile, Delivery, IsRewritable, IsNotRewritten, IsNotTraced, IsTracing, IsNotListed, Lacks, Delivers}
+use Rattle.multiverse_cli.specs.declared.refusal.Defect.TheVariants.{NoFrame, BadImage, BadLog, TooLarge, NoRoom}
+use Rattle.multiverse_cli.specs.Commands.{NewFile, Delivery, IsRewritable, IsNotRewritten, IsNotTraced, IsTracing, IsNotListed, IsNotExtracted, IsExtracting, IsNotUpgraded, IsUpgrading, Lacks, Delivers}
 use Rattle.multiverse_cli.specs.Texts.{defect_status}
-use Rattle.multiverse_cli.specs.Words.{Work, ToRewrite, ToTrace, ToList, ToSample, output_of}
+use Rattle.multiverse_cli.specs.Words.{Work, ToRewrite, ToTrace, ToList, ToSample, ToExtract, ToUpgrade, output_of}
 
 -- a value that isn't there is none
 pub absent : {A : Type 0} (o : Option A) → o ≡ None → IsSome o → ⊥
@@ -30,18 +34,22 @@ fault-none o fault none some = let e : None ≡ Some fault = sym none ∙ some i
 -- ---- rewrite
 
 rewrite-one : (b : List ℕ) (which : Rule) (why other : Defect) → IsNotRewritten b which why → IsNotRewritten b which other → defect_status why ≡ defect_status other
+rewrite-one b which NoFrame other h k = absurd h
+rewrite-one b which (BadImage f) NoFrame h k = absurd k
 rewrite-one b which (BadImage f) (BadImage g) h k = refl
 rewrite-one b which (BadImage f) (BadLog n) h k = absurd k
 rewrite-one b which (BadImage f) (TooLarge n) h k = absurd k
 rewrite-one b which (BadImage f) (NoRoom n) h k = absurd (fault-none _ f k.whole h)
 rewrite-one b which (BadLog n) other h k = absurd h
 rewrite-one b which (TooLarge n) other h k = absurd h
+rewrite-one b which (NoRoom n) NoFrame h k = absurd k
 rewrite-one b which (NoRoom n) (BadImage f) h k = absurd (fault-none _ f h.whole k)
 rewrite-one b which (NoRoom n) (BadLog m) h k = absurd k
 rewrite-one b which (NoRoom n) (TooLarge m) h k = absurd k
 rewrite-one b which (NoRoom n) (NoRoom m) h k = refl
 
 rewrite-clash : (b : List ℕ) (which : Rule) (why : Defect) → IsNotRewritten b which why → IsRewritable b which → ⊥
+rewrite-clash b which NoFrame h k = h
 rewrite-clash b which (BadImage f) h k = fault-none _ f k.sound h
 rewrite-clash b which (BadLog n) h k = h
 rewrite-clash b which (TooLarge n) h k = h
@@ -57,14 +65,18 @@ log-clash l line log bad spelled =
 trace-one :
     (steps : ℕ) (b l : List ℕ) (why other : Defect) → IsNotTraced steps b l why → IsNotTraced steps b l other
     → defect_status why ≡ defect_status other
+trace-one steps b l NoFrame other h k = absurd h
+trace-one steps b l (BadImage f) NoFrame h k = absurd k
 trace-one steps b l (BadImage f) (BadImage g) h k = refl
 trace-one steps b l (BadImage f) (BadLog n) h k = absurd (fault-none _ f k.sound h)
 trace-one steps b l (BadImage f) (TooLarge n) h k = absurd (fault-none _ f k.traceable.sound h)
 trace-one steps b l (BadImage f) (NoRoom n) h k = absurd k
+trace-one steps b l (BadLog n) NoFrame h k = absurd k
 trace-one steps b l (BadLog n) (BadImage f) h k = absurd (fault-none _ f h.sound k)
 trace-one steps b l (BadLog n) (BadLog m) h k = refl
 trace-one steps b l (BadLog n) (TooLarge m) h k = absurd (log-clash l n k.log h.bad k.traceable.spelled)
 trace-one steps b l (BadLog n) (NoRoom m) h k = absurd k
+trace-one steps b l (TooLarge n) NoFrame h k = absurd k
 trace-one steps b l (TooLarge n) (BadImage f) h k = absurd (fault-none _ f h.traceable.sound k)
 trace-one steps b l (TooLarge n) (BadLog m) h k = absurd (log-clash l m h.log k.bad h.traceable.spelled)
 trace-one steps b l (TooLarge n) (TooLarge m) h k = refl
@@ -88,6 +100,7 @@ same-log one x y P e h =
     subst₂ Q parts.0 parts.1 here y.bounds
 
 trace-clash : SpellsOne → (steps : ℕ) (b l : List ℕ) (why : Defect) (d : Delivery) → IsNotTraced steps b l why → IsTracing steps b l d → ⊥
+trace-clash one steps b l NoFrame d h k = h
 trace-clash one steps b l (BadImage f) d h k = fault-none _ f k.traceable.sound h
 trace-clash one steps b l (BadLog n) d h k = log-clash l n k.log h.bad k.traceable.spelled
 trace-clash one steps b l (TooLarge n) d h k =
@@ -99,6 +112,8 @@ trace-clash one steps b l (NoRoom n) d h k = h
 -- ---- list
 
 list-one : (b : List ℕ) (why other : Defect) → IsNotListed b why → IsNotListed b other → defect_status why ≡ defect_status other
+list-one b NoFrame other h k = absurd h
+list-one b (BadImage f) NoFrame h k = absurd k
 list-one b (BadImage f) (BadImage g) h k = refl
 list-one b (BadImage f) (BadLog n) h k = absurd k
 list-one b (BadImage f) (TooLarge n) h k = absurd k
@@ -108,10 +123,82 @@ list-one b (TooLarge n) other h k = absurd h
 list-one b (NoRoom n) other h k = absurd h
 
 list-clash : (b : List ℕ) (why : Defect) → IsNotListed b why → refusal b ≡ None → ⊥
+list-clash b NoFrame h k = h
 list-clash b (BadImage f) h k = fault-none _ f k h
 list-clash b (BadLog n) h k = h
 list-clash b (TooLarge n) h k = h
 list-clash b (NoRoom n) h k = h
+
+-- ---- extract
+
+-- a frame that is there, and none
+frame-none : (x : List ℕ) (f : Frame) → frame x ≡ None → frame x ≡ Some f → ⊥
+frame-none x f none some = let e : None ≡ Some f = sym none ∙ some in cc
+
+extract-one : (x : List ℕ) (why other : Defect) → IsNotExtracted x why → IsNotExtracted x other → defect_status why ≡ defect_status other
+extract-one x NoFrame NoFrame h k = refl
+extract-one x NoFrame (BadImage f) h k = absurd k
+extract-one x NoFrame (BadLog n) h k = absurd k
+extract-one x NoFrame (TooLarge n) h k = absurd k
+extract-one x NoFrame (NoRoom n) h k = absurd k
+extract-one x (BadImage f) other h k = absurd h
+extract-one x (BadLog n) other h k = absurd h
+extract-one x (TooLarge n) other h k = absurd h
+extract-one x (NoRoom n) other h k = absurd h
+
+extract-clash : (x output : List ℕ) (why : Defect) (d : Delivery) → IsNotExtracted x why → IsExtracting output x d → ⊥
+extract-clash x output NoFrame d h k = frame-none x k.frame_of h k.framed
+extract-clash x output (BadImage f) d h k = h
+extract-clash x output (BadLog n) d h k = h
+extract-clash x output (TooLarge n) d h k = h
+extract-clash x output (NoRoom n) d h k = h
+
+-- ---- upgrade
+
+-- a file has one frame
+one-frame : (x : List ℕ) (f g : Frame) → frame x ≡ Some f → frame x ≡ Some g → f ≡ g
+one-frame x f g h k = same_Some f g (sym h ∙ k)
+
+-- an input with a fault finds no room for want of which it is refused
+fault-or-room : (x : List ℕ) (fault : ImageFault) (n : ℕ) → IsNotUpgraded x (BadImage fault) → IsNotUpgraded x (NoRoom n) → ⊥
+fault-or-room x fault n h k =
+    let P : Frame → Type 0 = λ f. refusal (frame_input f) ≡ Some fault in
+    fault-none _ fault k.2.whole (subst P (one-frame x h.0 k.0 h.1 k.1) h.2)
+
+upgrade-one : (x : List ℕ) (why other : Defect) → IsNotUpgraded x why → IsNotUpgraded x other → defect_status why ≡ defect_status other
+upgrade-one x NoFrame NoFrame h k = refl
+upgrade-one x NoFrame (BadImage f) h k = absurd (frame-none x k.0 h k.1)
+upgrade-one x NoFrame (BadLog n) h k = absurd k
+upgrade-one x NoFrame (TooLarge n) h k = absurd k
+upgrade-one x NoFrame (NoRoom n) h k = absurd (frame-none x k.0 h k.1)
+upgrade-one x (BadImage f) NoFrame h k = absurd (frame-none x h.0 k h.1)
+upgrade-one x (BadImage f) (BadImage g) h k = refl
+upgrade-one x (BadImage f) (BadLog n) h k = absurd k
+upgrade-one x (BadImage f) (TooLarge n) h k = absurd k
+upgrade-one x (BadImage f) (NoRoom n) h k = absurd (fault-or-room x f n h k)
+upgrade-one x (BadLog n) other h k = absurd h
+upgrade-one x (TooLarge n) other h k = absurd h
+upgrade-one x (NoRoom n) NoFrame h k = absurd (frame-none x h.0 k h.1)
+upgrade-one x (NoRoom n) (BadImage f) h k = absurd (fault-or-room x f n k h)
+upgrade-one x (NoRoom n) (BadLog m) h k = absurd k
+upgrade-one x (NoRoom n) (TooLarge m) h k = absurd k
+upgrade-one x (NoRoom n) (NoRoom m) h k = refl
+
+-- what an input of a frame lacks clashes with its rewriting
+module _ (x output : List ℕ) (d : Delivery) (k : IsUpgrading output x d) where
+  abbrev b : List ℕ
+  b = frame_input k.old
+
+  upgrade-clash : (why : Defect) → IsNotUpgraded x why → ⊥
+  upgrade-clash NoFrame h = frame-none x k.old h k.framed
+  upgrade-clash (BadImage fault) h =
+      let P : Frame → Type 0 = λ f. refusal (frame_input f) ≡ Some fault in
+      rewrite-clash b (rule_back k.old) (BadImage fault) (subst P (one-frame x h.0 k.old h.1 k.framed) h.2) k.rewriting.rewrites.rewritable
+  upgrade-clash (BadLog n) h = h
+  upgrade-clash (TooLarge n) h = h
+  upgrade-clash (NoRoom n) h =
+      let P : Frame → Type 0 = λ f. LacksRoom (frame_input f) (rule_back f) n in
+      rewrite-clash b (rule_back k.old) (NoRoom n) (subst P (one-frame x h.0 k.old h.1 k.framed) h.2) k.rewriting.rewrites.rewritable
 
 -- ---- all commands
 
@@ -131,6 +218,12 @@ one-defect ToList (b ∷ []) why other h k = list-one b why other h k
 one-defect ToList (b ∷ c ∷ files) why other h k = absurd h
 one-defect (ToSample number size output) [] why other h k = absurd h
 one-defect (ToSample number size output) (b ∷ files) why other h k = absurd h
+one-defect (ToExtract output) [] why other h k = absurd h
+one-defect (ToExtract output) (x ∷ []) why other h k = extract-one x why other h k
+one-defect (ToExtract output) (x ∷ c ∷ files) why other h k = absurd h
+one-defect (ToUpgrade output) [] why other h k = absurd h
+one-defect (ToUpgrade output) (x ∷ []) why other h k = upgrade-one x why other h k
+one-defect (ToUpgrade output) (x ∷ c ∷ files) why other h k = absurd h
 
 -- files that lack something have nothing that is delivered over them
 pub defect-clash : SpellsOne → (w : Work) (files : List (List ℕ)) (why : Defect) (d : Delivery) → Lacks w files why → Delivers w files d → ⊥
@@ -146,6 +239,12 @@ defect-clash one ToList (b ∷ []) why d h k = list-clash b why h k.sound
 defect-clash one ToList (b ∷ c ∷ files) why d h k = h
 defect-clash one (ToSample number size output) [] why d h k = h
 defect-clash one (ToSample number size output) (b ∷ files) why d h k = h
+defect-clash one (ToExtract output) [] why d h k = h
+defect-clash one (ToExtract output) (x ∷ []) why d h k = extract-clash x output why d h k
+defect-clash one (ToExtract output) (x ∷ c ∷ files) why d h k = h
+defect-clash one (ToUpgrade output) [] why d h k = h
+defect-clash one (ToUpgrade output) (x ∷ []) why d h k = upgrade-clash x output d k why h
+defect-clash one (ToUpgrade output) (x ∷ c ∷ files) why d h k = h
 
 -- the file that is delivered has the name that the command writes
 pub output-named :
@@ -163,3 +262,9 @@ output-named ToList (b ∷ []) d f h e = let clash : None ≡ Some f = sym h.fil
 output-named ToList (b ∷ c ∷ files) d f h e = absurd h
 output-named (ToSample number size output) [] d f h e = ap (option_map (λ g. g.name)) (sym h.file_is ∙ e)
 output-named (ToSample number size output) (b ∷ files) d f h e = absurd h
+output-named (ToExtract output) [] d f h e = absurd h
+output-named (ToExtract output) (x ∷ []) d f h e = ap (option_map (λ g. g.name)) (sym h.file_is ∙ e)
+output-named (ToExtract output) (x ∷ c ∷ files) d f h e = absurd h
+output-named (ToUpgrade output) [] d f h e = absurd h
+output-named (ToUpgrade output) (x ∷ []) d f h e = ap (option_map (λ g. g.name)) (sym h.rewriting.file_is ∙ e)
+output-named (ToUpgrade output) (x ∷ c ∷ files) d f h e = absurd h

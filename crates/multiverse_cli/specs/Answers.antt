@@ -2,7 +2,7 @@
 use Rattle.std.specs.Prelude.{◌≡◌, ℕ, ◌<◌, ◌≤◌, ◌⊎◌, IsTrue, List, [], ◌∷◌, length, Contains, Option, Some, None, IsSomeAnd}
 use Rattle.mv_base.specs.Holding.{KeepsOrBegins}
 use Rattle.mv_base.specs.declared.status.Status.{Status}
-use Rattle.mv_base.specs.declared.status.Status.TheVariants.{Done, Usage, ReadFault, WriteFault, BadImage, NoRoom, BadLog, NoMemory, SinkFault, TooLarge}
+use Rattle.mv_base.specs.declared.status.Status.TheVariants.{Done, Usage, ReadFault, WriteFault, BadImage, NoRoom, BadLog, NoMemory, SinkFault, TooLarge, NoFrame}
 use Rattle.multiverse_cli.specs.declared.refusal.Defect.{Defect}
 use Rattle.multiverse_cli.specs.Commands.{NewFile, Delivery, Lacks, Delivers}
 use Rattle.multiverse_cli.specs.Outside.{Stored, Printed, IsReadFault, IsWriteFault, IsSinkFault, KeepsAll, KeepsOthers, Held, Holds, HeldAs, SaysAll, SaysPart, Says}
@@ -11,9 +11,9 @@ use Rattle.multiverse_cli.specs.Words.{Asked, output_of}
 
 -- ---- the files that a command reads
 
--- how many bytes a file that is read may have: 64 MiB
+-- how many bytes a file that is read may have: 256 MiB
 abbrev pub size_limit : ℕ
-size_limit = 67108864
+size_limit = 268435456
 
 abbrev pub IsOversized : List ℕ → Type 0
 IsOversized b = size_limit < length b
@@ -80,6 +80,7 @@ ComesWithout Done = ⊥
 ComesWithout Usage = Unit {0}
 ComesWithout ReadFault = ⊥
 ComesWithout TooLarge = ⊥
+ComesWithout NoFrame = ⊥
 ComesWithout BadImage = ⊥
 ComesWithout BadLog = ⊥
 ComesWithout NoRoom = ⊥
@@ -97,6 +98,7 @@ ComesAt Done a s k = HasDelivery a s
 ComesAt Usage a s k = ⊥
 ComesAt ReadFault a s k = (name : List ℕ) × IsUnread a s name
 ComesAt TooLarge a s k = ((name : List ℕ) × IsFirstOversized s a.reads name) ⊎ LacksFor TooLarge a s
+ComesAt NoFrame a s k = LacksFor NoFrame a s
 ComesAt BadImage a s k = LacksFor BadImage a s
 ComesAt BadLog a s k = LacksFor BadLog a s
 ComesAt NoRoom a s k = LacksFor NoRoom a s
@@ -163,6 +165,7 @@ LeavesAt Done a s = HasStored a s
 LeavesAt Usage a s = KeepsAll s
 LeavesAt ReadFault a s = KeepsAll s
 LeavesAt TooLarge a s = KeepsAll s
+LeavesAt NoFrame a s = KeepsAll s
 LeavesAt BadImage a s = KeepsAll s
 LeavesAt BadLog a s = KeepsAll s
 LeavesAt NoRoom a s = KeepsAll s
@@ -192,6 +195,7 @@ PrintsWithout Done k = ⊥
 PrintsWithout Usage k = Says k usage_message
 PrintsWithout ReadFault k = ⊥
 PrintsWithout TooLarge k = ⊥
+PrintsWithout NoFrame k = ⊥
 PrintsWithout BadImage k = ⊥
 PrintsWithout BadLog k = ⊥
 PrintsWithout NoRoom k = ⊥
@@ -213,6 +217,7 @@ PrintsAt Done a s k = (d : Delivery) × IsDelivery a s d × SaysAll k d.text
 PrintsAt Usage a s k = ⊥
 PrintsAt ReadFault a s k = (name : List ℕ) × IsUnread a s name × Says k (read_message name)
 PrintsAt TooLarge a s k = SaysSize a s k ⊎ SaysDefect TooLarge a s k
+PrintsAt NoFrame a s k = SaysDefect NoFrame a s k
 PrintsAt BadImage a s k = SaysDefect BadImage a s k
 PrintsAt BadLog a s k = SaysDefect BadLog a s k
 PrintsAt NoRoom a s k = SaysDefect NoRoom a s k
@@ -240,6 +245,7 @@ DeliversAll Done asked s k = IsSomeAnd asked (λ a. Delivered a s k)
 DeliversAll Usage asked s k = Unit {0}
 DeliversAll ReadFault asked s k = Unit {0}
 DeliversAll TooLarge asked s k = Unit {0}
+DeliversAll NoFrame asked s k = Unit {0}
 DeliversAll BadImage asked s k = Unit {0}
 DeliversAll BadLog asked s k = Unit {0}
 DeliversAll NoRoom asked s k = Unit {0}

@@ -1,7 +1,7 @@
 -- What each command makes of the files that it reads. This project's own.
-use Rattle.std.specs.Prelude.{◌≡◌, ℕ, List, [], ◌∷◌, length, Option, Some, None, IsSome, unwrap_or}
+use Rattle.std.specs.Prelude.{◌≡◌, ℕ, List, [], ◌∷◌, length, codes, Option, Some, None, IsSome, unwrap_or}
 use Rattle.elf32_read.specs.Faults.{refusal, load_refusal}
-use Rattle.elf32_write.specs.Frame.{Frame}
+use Rattle.elf32_write.specs.Frame.{Frame, frame, frame_input}
 use Rattle.simulation_laws.specs.Stopping.{Simulates}
 use Rattle.mv_rewrite.specs.Sites.{sites}
 use Rattle.counter_hooks.specs.declared.rules.Rule.{Rule}
@@ -10,6 +10,7 @@ use Rattle.mv_rewrite.specs.Layout.{base_of, size, counted_at}
 use Rattle.mv_rewrite.specs.Output.{output}
 use Rattle.mv_rewrite.specs.OutputFile.{IsWrittenFor}
 use Rattle.mv_rewrite.specs.Rewriting.{LacksRoom}
+use Rattle.mv_rewrite.specs.Upgrading.{rule_back}
 use Rattle.syscall_log.specs.declared.log.Log.{Log}
 use Rattle.syscall_log.specs.Faults.{IsBadLine}
 use Rattle.syscall_log.specs.Grammar.{text_of as log_text}
@@ -17,11 +18,11 @@ use Rattle.trace_run.specs.declared.report.Report.{Report}
 use Rattle.trace_run.specs.Reports.{IsReport, IsBeyond}
 use Rattle.trace_run.specs.Texts.{text_of as report_text}
 use Rattle.multiverse_cli.specs.declared.refusal.Defect.{Defect}
-use Rattle.multiverse_cli.specs.declared.refusal.Defect.TheVariants.{BadImage, BadLog, TooLarge, NoRoom}
+use Rattle.multiverse_cli.specs.declared.refusal.Defect.TheVariants.{NoFrame, BadImage, BadLog, TooLarge, NoRoom}
 use Rattle.multiverse_cli.specs.Listing.{listing}
 use Rattle.multiverse_cli.specs.Sample.{sample}
-use Rattle.multiverse_cli.specs.Texts.{rewritten_text, sample_text}
-use Rattle.multiverse_cli.specs.Words.{Work, ToRewrite, ToTrace, ToList, ToSample}
+use Rattle.multiverse_cli.specs.Texts.{count_line, rewritten_text, sample_text}
+use Rattle.multiverse_cli.specs.Words.{Work, ToRewrite, ToTrace, ToList, ToSample, ToExtract, ToUpgrade}
 
 -- a file that a command writes
 pub record NewFile : Type 0 where
@@ -58,6 +59,7 @@ sites_text b which = rewritten_text (length (sites b)) (unwrap_or (base_of b whi
 
 -- why a file is not rewritten: its first fault, or no room for its block, which has this size
 abbrev pub IsNotRewritten : List ℕ → Rule → Defect → Type 0
+IsNotRewritten b which NoFrame = ⊥
 IsNotRewritten b which (BadImage fault) = refusal b ≡ Some fault
 IsNotRewritten b which (BadLog line) = ⊥
 IsNotRewritten b which (TooLarge n) = ⊥
@@ -90,6 +92,7 @@ pub record MapsTooMuch (steps : ℕ) (b l : List ℕ) (n : ℕ) : Type 0 where
 
 -- why an image is not traced: the first of its faults 1 to 19, the first bad line of the log, or too many mapped bytes
 abbrev pub IsNotTraced : ℕ → List ℕ → List ℕ → Defect → Type 0
+IsNotTraced steps b l NoFrame = ⊥
 IsNotTraced steps b l (BadImage fault) = load_refusal b ≡ Some fault
 IsNotTraced steps b l (BadLog line) = HasBadLine b l line
 IsNotTraced steps b l (TooLarge n) = MapsTooMuch steps b l n
@@ -108,6 +111,7 @@ pub record IsTracing (steps : ℕ) (b l : List ℕ) (d : Delivery) : Type 0 wher
 
 -- why the sites of an image are not listed: its first fault
 abbrev pub IsNotListed : List ℕ → Defect → Type 0
+IsNotListed b NoFrame = ⊥
 IsNotListed b (BadImage fault) = refusal b ≡ Some fault
 IsNotListed b (BadLog line) = ⊥
 IsNotListed b (TooLarge n) = ⊥
@@ -128,6 +132,40 @@ pub record IsSampling (number size : ℕ) (output : List ℕ) (d : Delivery) : T
   pub text_is : d.text ≡ sample_text (length (sites (sample number size))) (length (sample number size)) (length bytes)
   pub file_is : d.file ≡ Some (record { name = output; bytes = bytes })
 
+-- ---- extract
+
+-- why no input is taken out of a file: it has no frame
+abbrev pub IsNotExtracted : List ℕ → Defect → Type 0
+IsNotExtracted x NoFrame = frame x ≡ None
+IsNotExtracted x (BadImage fault) = ⊥
+IsNotExtracted x (BadLog line) = ⊥
+IsNotExtracted x (TooLarge n) = ⊥
+IsNotExtracted x (NoRoom n) = ⊥
+
+-- the input that the file's frame has is written, and how many bytes it has is printed
+pub record IsExtracting (output x : List ℕ) (d : Delivery) : Type 0 where
+  pub frame_of : Frame
+  pub framed : frame x ≡ Some frame_of
+  pub text_is : d.text ≡ count_line (codes "input") (length (frame_input frame_of))
+  pub file_is : d.file ≡ Some (record { name = output; bytes = frame_input frame_of })
+
+-- ---- upgrade
+
+-- why a file is not written anew: it has no frame; or its input has this first fault, or no room for the block of the frame's rule,
+-- which has this size
+abbrev pub IsNotUpgraded : List ℕ → Defect → Type 0
+IsNotUpgraded x NoFrame = frame x ≡ None
+IsNotUpgraded x (BadImage fault) = (f : Frame) × (frame x ≡ Some f) × (refusal (frame_input f) ≡ Some fault)
+IsNotUpgraded x (BadLog line) = ⊥
+IsNotUpgraded x (TooLarge n) = ⊥
+IsNotUpgraded x (NoRoom n) = (f : Frame) × (frame x ≡ Some f) × LacksRoom (frame_input f) (rule_back f) n
+
+-- the one output of the frame's input by the frame's rule is written, and three lines are printed
+pub record IsUpgrading (output x : List ℕ) (d : Delivery) : Type 0 where
+  pub old : Frame
+  pub framed : frame x ≡ Some old
+  pub rewriting : IsRewriting output (frame_input old) (rule_back old) d
+
 -- ---- all commands
 
 -- why nothing is delivered over the bytes of the files that are read
@@ -135,6 +173,8 @@ abbrev pub Lacks : Work → List (List ℕ) → Defect → Type 0
 Lacks (ToRewrite which output) (b ∷ []) why = IsNotRewritten b which why
 Lacks (ToTrace steps) (b ∷ l ∷ []) why = IsNotTraced steps b l why
 Lacks ToList (b ∷ []) why = IsNotListed b why
+Lacks (ToExtract output) (x ∷ []) why = IsNotExtracted x why
+Lacks (ToUpgrade output) (x ∷ []) why = IsNotUpgraded x why
 Lacks work inputs why = ⊥
 
 -- what is delivered over the bytes of the files that are read
@@ -143,4 +183,6 @@ Delivers (ToRewrite which output) (b ∷ []) d = IsRewriting output b which d
 Delivers (ToTrace steps) (b ∷ l ∷ []) d = IsTracing steps b l d
 Delivers ToList (b ∷ []) d = IsListing b d
 Delivers (ToSample number size output) [] d = IsSampling number size output d
+Delivers (ToExtract output) (x ∷ []) d = IsExtracting output x d
+Delivers (ToUpgrade output) (x ∷ []) d = IsUpgrading output x d
 Delivers work inputs d = ⊥

@@ -61,6 +61,7 @@ PrintsText status.Done text k = SaysAll k text
 PrintsText status.Usage text k = ⊥
 PrintsText status.ReadFault text k = ⊥
 PrintsText status.TooLarge text k = ⊥
+PrintsText status.NoFrame text k = ⊥
 PrintsText status.BadImage text k = ⊥
 PrintsText status.BadLog text k = ⊥
 PrintsText status.NoRoom text k = ⊥

@@ -93,7 +93,11 @@ read_message name = line (codes "multiverse: cannot read " ++ name)
 
 -- the message that a file has more bytes than the limit
 abbrev pub size_message : List ℕ → List ℕ
-size_message name = line (codes "multiverse: too large: " ++ name ++ codes " above 67108864")
+size_message name = line (codes "multiverse: too large: " ++ name ++ codes " above 268435456")
+
+-- the message that a file has no frame
+abbrev pub frame_message : List ℕ
+frame_message = line (codes "multiverse: no frame")
 
 -- the message that an image has a fault
 abbrev pub image_message : ImageFault → List ℕ
@@ -121,12 +125,14 @@ memory_message = line (codes "multiverse: no memory")
 
 -- the message of what the files that are read lack, and the answer that it is
 abbrev pub defect_message : Defect → List ℕ
+defect_message defect.NoFrame = frame_message
 defect_message (defect.BadImage fault) = image_message fault
 defect_message (defect.BadLog n) = log_message n
 defect_message (defect.TooLarge n) = mapped_message n
 defect_message (defect.NoRoom n) = room_message n
 
 abbrev pub defect_status : Defect → Status
+defect_status defect.NoFrame = status.NoFrame
 defect_status (defect.BadImage fault) = status.BadImage
 defect_status (defect.BadLog n) = status.BadLog
 defect_status (defect.TooLarge n) = status.TooLarge

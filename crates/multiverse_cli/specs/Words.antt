@@ -12,16 +12,19 @@ use Rattle.counter_hooks.specs.declared.rules.Rule.{Rule}
 use Rattle.counter_hooks.specs.declared.rules.Rule.TheVariants as rule
 use Rattle.multiverse_cli.specs.declared.words.Command.{Command}
 use Rattle.multiverse_cli.specs.declared.words.Task.{Task}
-use Rattle.multiverse_cli.specs.declared.words.Task.TheVariants.{Rewrite, Trace, Listing, Sample}
+use Rattle.multiverse_cli.specs.declared.words.Task.TheVariants.{Rewrite, Trace, Listing, Sample, Extract, Upgrade}
 
 -- what is done with the files that a command reads: the rewritten image, with a counter at each site that the rule picks,
 -- is written to this name; or the image is run on the log for at most so many steps; or its sites are listed; or no file is read, and the rewritten sample of a number,
--- with so many bytes of code, is written to this name
+-- with so many bytes of code, is written to this name; or the input of a rewritten file is written to this name, or the output of that
+-- input by the rule that the file has
 pub data Work : Type 0 where
   ToRewrite : (which : Rule) (output : List ℕ) → Work
   ToTrace : (steps : ℕ) → Work
   ToList : Work
   ToSample : (number size : ℕ) (output : List ℕ) → Work
+  ToExtract : (output : List ℕ) → Work
+  ToUpgrade : (output : List ℕ) → Work
 
 -- what the program is asked: which files it reads, by their names in order, and what is done with them
 pub record Asked : Type 0 where
@@ -34,6 +37,8 @@ input_count (ToRewrite which output) = 1
 input_count (ToTrace steps) = 2
 input_count ToList = 1
 input_count (ToSample number size output) = 0
+input_count (ToExtract output) = 1
+input_count (ToUpgrade output) = 1
 
 -- the name that is written
 abbrev pub output_of : Work → Option (List ℕ)
@@ -41,6 +46,8 @@ output_of (ToRewrite which output) = Some output
 output_of (ToTrace steps) = None
 output_of ToList = None
 output_of (ToSample number size output) = Some output
+output_of (ToExtract output) = Some output
+output_of (ToUpgrade output) = Some output
 
 -- how many bytes of code a sample has at most: 1 MiB
 abbrev pub largest_sample : ℕ
@@ -52,6 +59,8 @@ HasSize (ToRewrite which output) = Unit {0}
 HasSize (ToTrace steps) = Unit {0}
 HasSize ToList = Unit {0}
 HasSize (ToSample number size output) = (1 ≤ size) × (size ≤ largest_sample)
+HasSize (ToExtract output) = Unit {0}
+HasSize (ToUpgrade output) = Unit {0}
 
 -- the bytes of each word
 abbrev pub texts : List (String Global) → List (List ℕ)
@@ -119,15 +128,37 @@ sample_words (command ∷ number ∷ size ∷ output ∷ []) =
     then sample_asked output (number_within 0 (2 ^ 32 - 1) number) (number_within 1 largest_sample size) else None
 sample_words _ = None
 
+-- `extract` and two names
+abbrev pub extract_words : List (List ℕ) → Option Asked
+extract_words (command ∷ input ∷ output ∷ []) =
+    if bytes_eq command (codes "extract") && is_name input && is_name output
+    then Some (record { reads = input ∷ []; work = ToExtract output }) else None
+extract_words _ = None
+
+-- `upgrade` and two names
+abbrev pub upgrade_words : List (List ℕ) → Option Asked
+upgrade_words (command ∷ input ∷ output ∷ []) =
+    if bytes_eq command (codes "upgrade") && is_name input && is_name output
+    then Some (record { reads = input ∷ []; work = ToUpgrade output }) else None
+upgrade_words _ = None
+
 -- the first of two commands that is there
 abbrev pub or_asked : Option Asked → Option Asked → Option Asked
 or_asked (Some a) other = Some a
 or_asked None other = other
 
+-- a command over an image: one that is read, or a sample
+abbrev pub image_words : List (List ℕ) → Option Asked
+image_words words =
+    or_asked (or_asked (or_asked (or_asked (rewrite_words words) (counting_words words)) (trace_words words)) (list_words words)) (sample_words words)
+
+-- a command over what a rewrite wrote
+abbrev pub frame_words : List (List ℕ) → Option Asked
+frame_words words = or_asked (extract_words words) (upgrade_words words)
+
 -- what the words ask for; none where they are no command
 abbrev pub asked_of : List (List ℕ) → Option Asked
-asked_of words =
-    or_asked (or_asked (or_asked (or_asked (rewrite_words words) (counting_words words)) (trace_words words)) (list_words words)) (sample_words words)
+asked_of words = or_asked (image_words words) (frame_words words)
 
 -- the same of a command that was read from words; the rule of a text that is one
 abbrev pub rule_or_none : List ℕ → Rule
@@ -142,6 +173,8 @@ work_of (Rewrite output text) = ToRewrite (named text) output.now
 work_of (Trace steps) = ToTrace steps
 work_of Listing = ToList
 work_of (Sample number size output) = ToSample number size output.now
+work_of (Extract output) = ToExtract output.now
+work_of (Upgrade output) = ToUpgrade output.now
 
 -- a text that a rewriting task has for a rule is one
 abbrev pub IsRuled : Option (Bor (List ℕ)) → Type 0
@@ -153,6 +186,8 @@ HasRule (Rewrite output text) = IsRuled text
 HasRule (Trace steps) = Unit {0}
 HasRule Listing = Unit {0}
 HasRule (Sample number size output) = Unit {0}
+HasRule (Extract output) = Unit {0}
+HasRule (Upgrade output) = Unit {0}
 
 abbrev pub asked : Command → Asked
 asked c = record { reads = texts c.reads.now; work = work_of c.task }

@@ -1,7 +1,7 @@
 //! Images cut short, and files and a text that fail at each call, for each command.
 
 use crate::run::run;
-use crate::tests::{IMAGE, strings};
+use crate::tests::{IMAGE, is_held, strings};
 use mv_base::{MemSink, MemStore, Status};
 use std::alloc::Global;
 use std::process::Abort;
@@ -101,6 +101,23 @@ fn fronts_of_a_compiled_image(rt: HostRuntime) -> Result<(), Fail> {
     check_fronts(&rt, &COMPILED, 148)
 }
 
+/// Lets a read of a command over an image fail, which is told by this text and changes nothing.
+pub(crate) fn check_read(
+    rt: &(impl AllocGlobal + Abort),
+    words: &[&str],
+    image: &[u8],
+    get: u64,
+    text: &[u8],
+) -> Result<(), Fail> {
+    let failing = Failing { get, ..NONE_FAILS };
+    let end = end_of(rt.alloc(), words, image, failing)?;
+    assert_eq!(rt; end.status, Status::ReadFault, "{:?}", words);
+    assert_eq!(rt; end.text.bytes(), text, "{:?}", words);
+    assert!(rt; is_held(&end.store, "a", image), "{:?}", words);
+    assert!(rt; is_held(&end.store, "b", b"old"), "{:?}", words);
+    Ok(())
+}
+
 #[test]
 fn each_read_that_fails_is_named(rt: HostRuntime) -> Result<(), Fail> {
     let rows: [(&[&str], u64, &[u8]); 4] = [
@@ -110,21 +127,38 @@ fn each_read_that_fails_is_named(rt: HostRuntime) -> Result<(), Fail> {
         (&["list", "a"], 1, b"multiverse: cannot read a\n"),
     ];
     for (words, get, text) in rows {
-        let failing = Failing { get, ..NONE_FAILS };
-        let end = end_of(rt.alloc(), words, &IMAGE, failing)?;
-        assert_eq!(rt; end.status, Status::ReadFault, "{:?}", words);
-        assert_eq!(rt; end.text.bytes(), text, "{:?}", words);
-        assert!(rt;
-            end.store.file("a") == Some(IMAGE.as_slice()),
-            "{:?}",
-            words
-        );
-        assert!(rt;
-            end.store.file("b") == Some(b"old".as_slice()),
-            "{:?}",
-            words
-        );
+        check_read(&rt, words, &IMAGE, get, text)?;
     }
+    Ok(())
+}
+
+/// Lets the write of a command over an image fail, which leaves what was there or a front of what is written.
+pub(crate) fn check_write(
+    rt: &(impl AllocGlobal + Abort),
+    words: &[&str],
+    image: &[u8],
+) -> Result<(), Fail> {
+    let whole = end_of(rt.alloc(), words, image, NONE_FAILS)?;
+    let failing = Failing {
+        put: 1,
+        ..NONE_FAILS
+    };
+    let end = end_of(rt.alloc(), words, image, failing)?;
+    assert_eq!(rt; end.status, Status::WriteFault, "{:?}", words);
+    assert_eq!(rt;
+        end.text.bytes(),
+        b"multiverse: cannot write b\n".as_slice(),
+        "{:?}",
+        words
+    );
+    assert!(rt; is_held(&end.store, "a", image), "{:?}", words);
+    let written = whole.store.file("b").unwrap_or(b"");
+    let left = end.store.file("b").unwrap_or(b"");
+    assert!(rt;
+        left == b"old".as_slice() || written.starts_with(left),
+        "{:?}",
+        words
+    );
     Ok(())
 }
 
@@ -132,31 +166,7 @@ fn each_read_that_fails_is_named(rt: HostRuntime) -> Result<(), Fail> {
 fn a_write_that_fails_leaves_a_front(rt: HostRuntime) -> Result<(), Fail> {
     let rows: [&[&str]; 2] = [&["rewrite", "a", "b"], &["sample", "7", "64", "b"]];
     for words in rows {
-        let whole = end_of(rt.alloc(), words, &IMAGE, NONE_FAILS)?;
-        let failing = Failing {
-            put: 1,
-            ..NONE_FAILS
-        };
-        let end = end_of(rt.alloc(), words, &IMAGE, failing)?;
-        assert_eq!(rt; end.status, Status::WriteFault, "{:?}", words);
-        assert_eq!(rt;
-            end.text.bytes(),
-            b"multiverse: cannot write b\n".as_slice(),
-            "{:?}",
-            words
-        );
-        assert!(rt;
-            end.store.file("a") == Some(IMAGE.as_slice()),
-            "{:?}",
-            words
-        );
-        let written = whole.store.file("b").unwrap_or(b"");
-        let left = end.store.file("b").unwrap_or(b"");
-        assert!(rt;
-            left == b"old".as_slice() || written.starts_with(left),
-            "{:?}",
-            words
-        );
+        check_write(&rt, words, &IMAGE)?;
     }
     Ok(())
 }
@@ -165,14 +175,18 @@ fn a_write_that_fails_leaves_a_front(rt: HostRuntime) -> Result<(), Fail> {
 const MOST_PRINTS: u64 = 100;
 
 /// Lets each part of a command's text fail in turn; the number of the first that isn't printed.
-fn check_prints(rt: &(impl AllocGlobal + Abort), words: &[&str]) -> Result<u64, Fail> {
-    let whole = end_of(rt.alloc(), words, &IMAGE, NONE_FAILS)?;
+fn first_unprinted(
+    rt: &(impl AllocGlobal + Abort),
+    words: &[&str],
+    image: &[u8],
+) -> Result<u64, Fail> {
+    let whole = end_of(rt.alloc(), words, image, NONE_FAILS)?;
     for print in 1..MOST_PRINTS {
         let failing = Failing {
             print,
             ..NONE_FAILS
         };
-        let end = end_of(rt.alloc(), words, &IMAGE, failing)?;
+        let end = end_of(rt.alloc(), words, image, failing)?;
         assert!(rt; end.store.file("b") == whole.store.file("b"), "{:?}", words);
         if end.status == Status::Done {
             return Ok(print);
@@ -187,6 +201,17 @@ fn check_prints(rt: &(impl AllocGlobal + Abort), words: &[&str]) -> Result<u64, 
     Ok(MOST_PRINTS)
 }
 
+/// Lets each part of a command's text fail in turn, which leaves the file that is written and a front of the text.
+pub(crate) fn check_prints(
+    rt: &(impl AllocGlobal + Abort),
+    words: &[&str],
+    image: &[u8],
+) -> Result<(), Fail> {
+    let prints = first_unprinted(rt, words, image)?;
+    assert!(rt; 1 < prints && prints < MOST_PRINTS, "{:?}", words);
+    Ok(())
+}
+
 #[test]
 fn each_print_that_fails_leaves_a_front(rt: HostRuntime) -> Result<(), Fail> {
     let rows: [&[&str]; 4] = [
@@ -196,8 +221,7 @@ fn each_print_that_fails_leaves_a_front(rt: HostRuntime) -> Result<(), Fail> {
         &["sample", "7", "64", "b"],
     ];
     for words in rows {
-        let prints = check_prints(&rt, words)?;
-        assert!(rt; 1 < prints && prints < MOST_PRINTS, "{:?}", words);
+        check_prints(&rt, words, &IMAGE)?;
     }
     Ok(())
 }

@@ -20,7 +20,7 @@ pub enum Printout {
     Lines(Listing),
 }
 
-/// Sites, and the runs in which they were found. The lines of 4 MiB of code have more than 100 MB, so they are never
+/// Sites, and the runs in which they were found. The lines of 16 MiB of code have more than 400 MB, so they are never
 /// held together.
 #[derive(Drop)]
 pub struct Listing {

@@ -1,4 +1,5 @@
-//! The program: a static executable in, its rewritten form out, or the report of its run.
+//! The program: a static executable in, its rewritten form out, or the report of its run; or a rewritten form in, and out the
+//! executable that stands in it, or the form that a rewrite gives that today.
 //!
 //! - `words`: what the program is asked to do. A command reads some files and has a task.
 //! - `verdict`: what comes of the bytes of these files, task by task: a text and perhaps a new file, or what they lack.
@@ -39,6 +40,8 @@ mod tests;
 mod texts;
 #[cfg(test)]
 mod trace_rows;
+#[cfg(test)]
+mod upgrade_rows;
 mod verdict;
 mod words;
 

@@ -9,6 +9,8 @@ use mv_base::Status;
 /// Why nothing comes of the files that a command reads, in the order in which the reasons are looked for.
 #[derive(Clone, Copy, Drop)]
 pub enum Defect {
+    /// The file has no frame.
+    NoFrame,
     /// The image has this fault.
     BadImage(ImageFault),
     /// The log's first line that no log has, counted from 1.
@@ -25,6 +27,7 @@ impl Defect {
         ensures { result ≡ defect_status self.now }
     {
         match self {
+            Defect::NoFrame => Status::NoFrame,
             Defect::BadImage(_) => Status::BadImage,
             Defect::BadLog(_) => Status::BadLog,
             Defect::TooLarge(_) => Status::TooLarge,

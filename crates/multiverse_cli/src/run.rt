@@ -13,15 +13,19 @@ use syscall_log::laws::one_log;
 /// Does what the words after the program's name ask for, over the files of `store`, prints to `out`, and gives the
 /// answer.
 ///
-/// The answers are looked for in the order Usage, ReadFault, TooLarge of a file, BadImage, BadLog, TooLarge of the bytes
-/// that a traced program maps, NoRoom, WriteFault, SinkFault, Done; NoMemory may come at any place. The clauses say when
-/// each comes, which one has to come, and what it leaves behind. All files of a command are read before any is judged.
+/// The answers are looked for in the order Usage, ReadFault, TooLarge of a file, NoFrame, BadImage, BadLog, TooLarge of the
+/// bytes that a traced program maps, NoRoom, WriteFault, SinkFault, Done; NoMemory may come at any place. The clauses say
+/// when each comes, which one has to come, and what it leaves behind. All files of a command are read before any is judged.
 ///
 /// After Done of a rewrite the output simulates the input: while the input's steps are clear, it passes in order through a
 /// state that agrees after each, shows nothing else in between, and stops where the input stops. Bytes outside the known
 /// instructions stop the input as outside and the output by a fetch fault at the same address.
 ///
 /// After Done of a trace the report of the image, the log and the number of steps is printed, and no file has changed.
+///
+/// NoFrame comes exactly where a file has no frame of which the input is to be extracted, or written anew. After Done of an
+/// extract the output is that input, byte for byte. After Done of an upgrade the output is the one that a rewrite of that
+/// input by the frame's rule has, of which all is so that is said of a rewrite's.
 ///
 /// Where a store tells what it holds, the clauses speak of that. The files of the system tell nothing to a proof: for them
 /// the clauses keep counts, causes and order, and the rest holds since this is one function for every store.

@@ -17,7 +17,7 @@ pub(crate) const IMAGE: [u8; 96] = [
 ];
 
 /// What a rewrite of `IMAGE` prints: all offsets but those of 07 and of the last byte are sites.
-const PRINTED: &str = "sites 10\nadded 00100000 00005000\ncounters 0\n";
+pub(crate) const PRINTED: &str = "sites 10\nadded 00100000 00005000\ncounters 0\n";
 
 /// The stub with which its code begins.
 const STUB: [u8; 91] = [
@@ -48,11 +48,11 @@ const TABLE: [u8; 52] = [
 ];
 
 /// The frame record of its output, at 0x900.
-const RECORD: [u8; 76] = [
-    0x4d, 0x56, 0x46, 0x52, 1, 0, 0, 0, 2, 0, 0, 0, 0x60, 0, 0, 0, 0, 0, 0x10, 0, 0, 0x50, 0, 0, 0,
+const RECORD: [u8; 84] = [
+    0x4d, 0x56, 0x46, 0x52, 2, 0, 0, 0, 2, 0, 0, 0, 0x60, 0, 0, 0, 0, 0, 0x10, 0, 0, 0x50, 0, 0, 0,
     0, 0x10, 0, 0x92, 0, 0, 0, 0, 0x10, 0x10, 0, 4, 0x20, 0, 0, 0, 0x40, 0x10, 0, 0x40, 0, 0, 0,
-    0x40, 0x40, 0x10, 0, 0, 0, 0, 0, 4, 0x30, 0x10, 0, 1, 0, 0, 0, 0x54, 0x80, 4, 8, 0x0c, 0, 0, 0,
-    0, 0x20, 0x10, 0,
+    0x40, 0x40, 0x10, 0, 0, 0, 0, 0, 4, 0x30, 0x10, 0, 1, 0, 0, 0, 0, 0, 0, 0, 0, 0, 0, 0, 0x54,
+    0x80, 4, 8, 0x0c, 0, 0, 0, 0, 0x20, 0x10, 0,
 ];
 
 /// The words as the program gets them.
@@ -78,7 +78,7 @@ pub(crate) fn store_of(
 }
 
 /// Whether a store's name holds these bytes.
-fn is_held(store: &MemStore, name: &str, bytes: &[u8]) -> bool {
+pub(crate) fn is_held(store: &MemStore, name: &str, bytes: &[u8]) -> bool {
     store.file(name).is_some_and(|held| held == bytes)
 }
 
@@ -98,7 +98,7 @@ fn is_output(store: &MemStore, name: &str) -> bool {
                 .get(24..28)
                 .is_some_and(|entry| entry == [0x5b, 0, 0x10, 0].as_slice())
             && held
-                .get(0x900..0x94c)
+                .get(0x900..0x954)
                 .is_some_and(|part| part == RECORD.as_slice())
             && held
                 .get(0x1000..0x1060)
@@ -182,6 +182,14 @@ fn refusals_say_why_and_change_nothing(rt: HostRuntime) -> Result<(), Fail> {
         usage(&["sample", "0", "01", "b"]),
         usage(&["sample", "0", "1", "--b"]),
         usage(&["sample", "0", "1"]),
+        usage(&["extract", "a"]),
+        usage(&["extract", "a", "b", "b"]),
+        usage(&["extract", "--a", "b"]),
+        usage(&["extract", "a", ""]),
+        usage(&["upgrade", "a"]),
+        usage(&["upgrade", "a", "b", "--count=all"]),
+        usage(&["upgrade", "", "b"]),
+        usage(&["upgrade", "a", "--b"]),
         Case {
             fail_print: 1,
             printed: "",
@@ -201,6 +209,24 @@ fn refusals_say_why_and_change_nothing(rt: HostRuntime) -> Result<(), Fail> {
             ..usage(&[])
         },
         Case {
+            words: &["extract", "c", "b"],
+            status: Status::ReadFault,
+            printed: "multiverse: cannot read c\n",
+            ..usage(&[])
+        },
+        Case {
+            words: &["extract", "a", "b"],
+            status: Status::NoFrame,
+            printed: "multiverse: no frame\n",
+            ..usage(&[])
+        },
+        Case {
+            words: &["upgrade", "a", "b"],
+            status: Status::NoFrame,
+            printed: "multiverse: no frame\n",
+            ..usage(&[])
+        },
+        Case {
             words: &["rewrite", "a", "b"],
             a: b"no image",
             status: Status::BadImage,
@@ -214,20 +240,38 @@ fn refusals_say_why_and_change_nothing(rt: HostRuntime) -> Result<(), Fail> {
     Ok(())
 }
 
+/// What is answered where `l` has a byte more than is read. All files are read before any is judged.
+const LARGE_ROWS: [(&[&str], Status, &str); 7] = [
+    (&["rewrite", "l", "b"], Status::TooLarge, TOO_LARGE),
+    (&["list", "l"], Status::TooLarge, TOO_LARGE),
+    (&["extract", "l", "b"], Status::TooLarge, TOO_LARGE),
+    (&["upgrade", "l", "b"], Status::TooLarge, TOO_LARGE),
+    (&["trace", "l", "a", "0"], Status::TooLarge, TOO_LARGE),
+    (&["trace", "a", "l", "0"], Status::TooLarge, TOO_LARGE),
+    (
+        &["trace", "l", "c", "0"],
+        Status::ReadFault,
+        "multiverse: cannot read c\n",
+    ),
+];
+
+/// The message that `l` is too large.
+const TOO_LARGE: &str = "multiverse: too large: l above 268435456\n";
+
 #[test]
 fn file_above_the_limit_is_too_large(rt: HostRuntime) -> Result<(), Fail> {
     let alloc = rt.alloc();
     let zeros = vec![in alloc; 0u8; FILE_LIMIT + 1]?;
-    let mut store = store_of(alloc, zeros.as_slice(), 0, 0)?;
-    let mut out = MemSink::new(alloc, Vec::new(alloc))?;
-    let words = strings(alloc, &["rewrite", "a", "b"])?;
-    let status = run(alloc, words.as_slice(), &mut store, &mut out);
-    assert_eq!(rt; status, Status::TooLarge);
-    assert_eq!(rt;
-        out.bytes(),
-        b"multiverse: too large: a above 67108864\n".as_slice()
-    );
-    assert!(rt; is_held(&store, "b", b"old"));
+    let mut store = store_of(alloc, b"no image", 0, 0)?;
+    store.add("l", zeros.as_slice())?;
+    for (words, status, printed) in LARGE_ROWS {
+        let mut out = MemSink::new(alloc, Vec::new(alloc))?;
+        let command = strings(alloc, words)?;
+        let answer = run(alloc, command.as_slice(), &mut store, &mut out);
+        assert_eq!(rt; answer, status, "{:?}", words);
+        assert_eq!(rt; out.bytes(), printed.as_bytes(), "{:?}", words);
+        assert!(rt; is_held(&store, "b", b"old"), "{:?}", words);
+    }
     Ok(())
 }
 
@@ -298,7 +342,7 @@ const OF_62_HEADERS: [u8; 84] = [
 ];
 
 /// Writable code, and an interpreter.
-const WRITABLE_FIRST: [u8; 116] = [
+pub(crate) const WRITABLE_FIRST: [u8; 116] = [
     0x7f, 0x45, 0x4c, 0x46, 1, 1, 1, 0, 0, 0, 0, 0, 0, 0, 0, 0, 2, 0, 3, 0, 1, 0, 0, 0, 0x54, 0x80,
     4, 8, 0x34, 0, 0, 0, 0, 0, 0, 0, 0, 0, 0, 0, 0x34, 0, 0x20, 0, 2, 0, 0, 0, 0, 0, 0, 0, 1, 0, 0,
     0, 0x74, 0, 0, 0, 0x74, 0x80, 4, 8, 0x74, 0x80, 4, 8, 0x0c, 0, 0, 0, 0x0c, 0, 0, 0, 7, 0, 0, 0,
@@ -319,13 +363,13 @@ const INTERPRETER_FIRST: [u8; 116] = [
 pub(crate) const LARGE_CODE: [u8; 116] = [
     0x7f, 0x45, 0x4c, 0x46, 1, 1, 1, 0, 0, 0, 0, 0, 0, 0, 0, 0, 2, 0, 3, 0, 1, 0, 0, 0, 0x74, 0x80,
     4, 8, 0x34, 0, 0, 0, 0, 0, 0, 0, 0, 0, 0, 0, 0x34, 0, 0x20, 0, 2, 0, 0, 0, 0, 0, 0, 0, 1, 0, 0,
-    0, 0x74, 0, 0, 0, 0x74, 0x80, 4, 8, 0x74, 0x80, 4, 8, 0x0c, 0, 0, 0, 1, 0, 0x40, 0, 5, 0, 0, 0,
-    0, 0x10, 0, 0, 0, 0, 0, 0, 0, 0, 0, 0, 0, 0, 0, 0, 0, 0, 0, 0, 0, 0, 0, 0, 0, 0, 0, 0, 0, 0, 0,
-    0, 0, 0, 0, 0,
+    0, 0x74, 0, 0, 0, 0x74, 0x80, 4, 8, 0x74, 0x80, 4, 8, 0x0c, 0, 0, 0, 1, 0, 0, 1, 5, 0, 0, 0, 0,
+    0x10, 0, 0, 0, 0, 0, 0, 0, 0, 0, 0, 0, 0, 0, 0, 0, 0, 0, 0, 0, 0, 0, 0, 0, 0, 0, 0, 0, 0, 0, 0,
+    0, 0, 0, 0,
 ];
 
 /// Zeros at each address that an added block may have, and code above them.
-const NO_ROOM: [u8; 116] = [
+pub(crate) const NO_ROOM: [u8; 116] = [
     0x7f, 0x45, 0x4c, 0x46, 1, 1, 1, 0, 0, 0, 0, 0, 0, 0, 0, 0, 2, 0, 3, 0, 1, 0, 0, 0, 0x54, 0x80,
     4, 8, 0x34, 0, 0, 0, 0, 0, 0, 0, 0, 0, 0, 0, 0x34, 0, 0x20, 0, 2, 0, 0, 0, 0, 0, 0, 0, 1, 0, 0,
     0, 0, 0, 0, 0, 0, 0, 0x10, 0, 0, 0, 0x10, 0, 0, 0, 0, 0, 0, 0, 0xf0, 0xaf, 6, 0, 0, 0, 0, 0x10,

@@ -46,6 +46,15 @@ pub fn sample_text(
     Ok(text)
 }
 
+/// What is printed when an input was taken out of a rewritten file: how many bytes it has.
+pub fn input_text(alloc: Global, input: usize) -> Result<Vec<u8>, NoMemory>
+    ensures { IfOk result (λ text. text.items ≡ count_line (codes "input") input) }
+{
+    let mut text = Vec::new(alloc);
+    put_count("input", input as u64, &mut text)?;
+    Ok(text)
+}
+
 /// Appends the line of a number with a word before it.
 fn put_count(word: &str, n: u64, to: &mut Vec<u8>) -> Result<(), NoMemory>
     ensures { OnOk result (to.new.items ≡ to.old.items ++ count_line word.now n) }
@@ -77,7 +86,7 @@ pub fn message(alloc: Global, refusal: &Refusal<'_>) -> Result<Vec<u8>, NoMemory
         Refusal::Usage => name_line(alloc, "multiverse: usage", "", ""),
         Refusal::ReadFault(name) => name_line(alloc, "multiverse: cannot read ", name, ""),
         Refusal::TooLarge(name) => {
-            name_line(alloc, "multiverse: too large: ", name, " above 67108864")
+            name_line(alloc, "multiverse: too large: ", name, " above 268435456")
         }
         Refusal::Lacking(defect) => defect_line(alloc, defect),
         Refusal::WriteFault(name) => name_line(alloc, "multiverse: cannot write ", name, ""),
@@ -89,6 +98,7 @@ fn defect_line(alloc: Global, defect: &Defect) -> Result<Vec<u8>, NoMemory>
     ensures { IfOk result (λ text. text.items ≡ defect_message defect.now) }
 {
     match defect {
+        Defect::NoFrame => name_line(alloc, "multiverse: no frame", "", ""),
         Defect::BadImage(fault) => fault_line(alloc, fault),
         Defect::BadLog(line) => number_line(alloc, "multiverse: bad log: line ", *line),
         Defect::TooLarge(size) => number_line(alloc, "multiverse: too large: mapped ", *size),

@@ -7,7 +7,6 @@ use crate::tests::{
     DATA, EXIT, LARGE_CODE, MANY_HEADERS, NO_HEADER, file_of, full_of_headers, strings,
 };
 use mv_base::{MemSink, MemStore, Status};
-use mv_rewrite::FILE_LIMIT;
 use std::alloc::Global;
 use std::process::Abort;
 use std::test::Fail;
@@ -398,7 +397,7 @@ pub(crate) fn store_of(alloc: Global, image: &[u8], log: &str) -> Result<MemStor
 }
 
 /// Runs the words over the store, and compares what is answered and printed.
-fn check_words(
+pub(crate) fn check_words(
     rt: &(impl AllocGlobal + Abort),
     store: &mut MemStore,
     words: &[&str],
@@ -555,12 +554,5 @@ fn logs_are_read_before_images_are_judged(rt: HostRuntime) -> Result<(), Fail> {
     let words = ["trace", "a", "c", "0"];
     check_words(&rt, &mut store, &words, Status::ReadFault, text)?;
     let words = ["trace", "c", "d", "0"];
-    check_words(&rt, &mut store, &words, Status::ReadFault, text)?;
-    let zeros = vec![in alloc; 0u8; FILE_LIMIT + 1]?;
-    store.add("l", zeros.as_slice())?;
-    let words = ["trace", "l", "c", "0"];
-    check_words(&rt, &mut store, &words, Status::ReadFault, text)?;
-    let text = "multiverse: too large: l above 67108864\n";
-    let words = ["trace", "a", "l", "0"];
-    check_words(&rt, &mut store, &words, Status::TooLarge, text)
+    check_words(&rt, &mut store, &words, Status::ReadFault, text)
 }

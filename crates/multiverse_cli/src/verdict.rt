@@ -8,19 +8,21 @@ ghost use Rattle.mv_rewrite.specs.OutputFile.{IsWrittenFor};
 ghost use Rattle.mv_rewrite.specs.Rewriting.{IsRewritten};
 ghost use Rattle.simulation_laws.specs.Stopping.{Simulates};
 ghost use Rattle.multiverse_cli.specs.Answers.{Fits};
-ghost use Rattle.multiverse_cli.specs.Commands.{IsListing, IsNotListed, IsNotRewritten, IsNotTraced, IsRewriting, IsSampling, IsTracing};
+ghost use Rattle.multiverse_cli.specs.Commands.{IsExtracting, IsListing, IsNotExtracted, IsNotListed, IsNotRewritten, IsNotTraced, IsNotUpgraded, IsRewriting, IsSampling, IsTracing, IsUpgrading};
 ghost use Rattle.multiverse_cli.specs.Verdicts.{AllFit, IsVerdict, IsVerdictOf};
 ghost use Rattle.multiverse_cli.specs.Words.{HasRule, HasSize, IsRuled, ToList, ToRewrite, ToSample, ToTrace, input_count, named, work_of};
 
 use crate::failure::Objection;
 use crate::listing::{Listing, Printout};
+use crate::refusal::Defect;
 use crate::sample::{LARGEST, sample};
-use crate::texts::{rewritten_text, sample_text};
+use crate::texts::{input_text, rewritten_text, sample_text};
 use crate::words::Task;
 use counter_hooks::{Hooks, Question, Rule, picked, read_rule};
 use elf32_read::{admit, read_image, runs};
+use elf32_write::read_frame;
 use mv_base::{Bytes, NoMemory};
-use mv_rewrite::{RewriteFault, Rewritten, rewrite};
+use mv_rewrite::{RewriteFault, Rewritten, frame_rule, rewrite};
 use std::alloc::Global;
 use superset::{Site, sites};
 use syscall_log::read_log;
@@ -68,6 +70,8 @@ pub fn verdict<'a>(
             },
             [],
         ) => sampled(alloc, number, size, output),
+        (Task::Extract { output }, [file]) => extracted(alloc, output, file.as_slice()),
+        (Task::Upgrade { output }, [file]) => upgraded(alloc, output, file.as_slice()),
         _ => unreachable!(),
     }
 }
@@ -86,6 +90,21 @@ fn rewritten<'a>(
         (IsRewriting output.now image.now (named rule.entry)) result }
 {
     let counted = named_rule(alloc, rule)?;
+    counting(alloc, output, counted, image)
+}
+
+/// The rewritten image, with a counter at each site that the rule picks, which is written to `output`, and its numbers.
+fn counting<'a>(
+    alloc: Global,
+    output: &'a str,
+    counted: Rule,
+    image: &[u8],
+) -> Result<Delivery<'a>, Objection>
+    requires fits { Fits image.now }
+    requires ascends { IsAscending counted }
+    ensures { IsVerdictOf (IsNotRewritten image.now counted)
+        (IsRewriting output.now image.now counted) result }
+{
     let asked = counted.copied(alloc)?;
     let rewritten = rewritten_by(alloc, image, counted, |site: &Site| picked(&asked, site))?;
     let text = rewritten_text(alloc, &rewritten)?;
@@ -113,6 +132,43 @@ fn rewritten_by<F: Question + Drop>(
     ensures written { IfOk result (λ r. (f : Frame) × IsWrittenFor image.now rule r.bytes f) }
 {
     rewrite(alloc, image, &Hooks::new(rule, ask))
+}
+
+/// The input of a rewritten file, which is written to `output`, and how many bytes it has.
+fn extracted<'a>(alloc: Global, output: &'a str, file: &[u8]) -> Result<Delivery<'a>, Objection>
+    ensures { IsVerdictOf (IsNotExtracted file.now) (IsExtracting output.now file.now) result }
+{
+    let Some(frame) = read_frame(file) else {
+        return Err(Objection::Lacking(Defect::NoFrame));
+    };
+    let input = frame.input();
+    let text = input_text(alloc, input.len())?;
+    let bytes = copied(alloc, input)?;
+    Ok(Delivery {
+        text: Printout::Text(text),
+        file: Some(NewFile {
+            name: output,
+            bytes,
+        }),
+    })
+}
+
+/// The same bytes once more.
+fn copied(alloc: Global, bytes: &[u8]) -> Result<Bytes, NoMemory>
+    ensures { IfOk result (λ copy. copy ≡ bytes.now) }
+{
+    Ok(Bytes::new(Vec::from_slice(alloc, bytes)?))
+}
+
+/// The output of a rewritten file's input by the file's rule, which is written to `output`, and its numbers.
+fn upgraded<'a>(alloc: Global, output: &'a str, file: &[u8]) -> Result<Delivery<'a>, Objection>
+    ensures { IsVerdictOf (IsNotUpgraded file.now) (IsUpgrading output.now file.now) result }
+{
+    let Some(frame) = read_frame(file) else {
+        return Err(Objection::Lacking(Defect::NoFrame));
+    };
+    let counted = frame_rule(alloc, &frame)?;
+    counting(alloc, output, counted, frame.input())
 }
 
 /// The rule of a text that has one; that no site is counted, where there is no text.

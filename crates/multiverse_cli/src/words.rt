@@ -3,7 +3,7 @@
 ghost use Rattle.std.specs.Prelude.{◌≡◌, ◌≤◌, IfSome, IsSome, length};
 ghost use Rattle.std.specs.Option.{option_map};
 ghost use Rattle.counter_hooks.specs.RuleTexts.{rule_of};
-ghost use Rattle.multiverse_cli.specs.Words.{asked, asked_of, input_count, is_name as is_name_of, HasRule, HasSize, list_words, number_of, number_within as number_within_of, option_rule, rewrite_words, rule_or_none, counting_asked, counting_words, sample_words, texts, trace_words, work_of};
+ghost use Rattle.multiverse_cli.specs.Words.{asked, asked_of, extract_words, frame_words, image_words, input_count, is_name as is_name_of, HasRule, HasSize, list_words, number_of, number_within as number_within_of, option_rule, rewrite_words, rule_or_none, counting_asked, counting_words, sample_words, texts, trace_words, upgrade_words, work_of};
 
 use crate::sample::LARGEST;
 use counter_hooks::is_rule;
@@ -30,6 +30,14 @@ pub enum Task<'a> {
         size: u32,
         output: &'a str,
     },
+    /// Write to `output` the input of the rewritten file, which the one file is.
+    Extract {
+        output: &'a str,
+    },
+    /// Write to `output` the output of that input, by the rule that the rewritten file has.
+    Upgrade {
+        output: &'a str,
+    },
 }
 
 /// A command: the names of the store's files that it reads, in order, and what it does with them.
@@ -46,11 +54,31 @@ pub fn read_command(words: &[String]) -> Option<Command<'_>>
     ensures sized { IfSome result (λ c. HasSize (work_of c.task)) }
     ensures ruled { IfSome result (λ c. HasRule c.task) }
 {
+    image_command(words).or_else(|| frame_command(words))
+}
+
+/// A command over an image: one that is read, or a sample.
+fn image_command(words: &[String]) -> Option<Command<'_>>
+    ensures is { option_map asked result ≡ image_words (texts words.now) }
+    ensures inputs { IfSome result (λ c. length c.reads.now ≡ input_count (work_of c.task)) }
+    ensures sized { IfSome result (λ c. HasSize (work_of c.task)) }
+    ensures ruled { IfSome result (λ c. HasRule c.task) }
+{
     rewrite_command(words)
         .or_else(|| counting_command(words))
         .or_else(|| trace_command(words))
         .or_else(|| list_command(words))
         .or_else(|| sample_command(words))
+}
+
+/// A command over what a rewrite wrote.
+fn frame_command(words: &[String]) -> Option<Command<'_>>
+    ensures is { option_map asked result ≡ frame_words (texts words.now) }
+    ensures inputs { IfSome result (λ c. length c.reads.now ≡ input_count (work_of c.task)) }
+    ensures sized { IfSome result (λ c. HasSize (work_of c.task)) }
+    ensures ruled { IfSome result (λ c. HasRule c.task) }
+{
+    extract_command(words).or_else(|| upgrade_command(words))
 }
 
 /// `rewrite IN OUT`.
@@ -188,6 +216,52 @@ fn sample_command(words: &[String]) -> Option<Command<'_>>
                 task: Task::Sample {
                     number,
                     size,
+                    output: output.as_str(),
+                },
+            })
+        }
+        _ => None,
+    }
+}
+
+/// `extract IN OUT`.
+fn extract_command(words: &[String]) -> Option<Command<'_>>
+    ensures is { option_map asked result ≡ extract_words (texts words.now) }
+    ensures inputs { IfSome result (λ c. length c.reads.now ≡ input_count (work_of c.task)) }
+    ensures sized { IfSome result (λ c. HasSize (work_of c.task)) }
+    ensures ruled { IfSome result (λ c. HasRule c.task) }
+{
+    match words {
+        [command, input, output]
+            if command.as_str() == "extract"
+                && is_name(input.as_str())
+                && is_name(output.as_str()) => {
+            Some(Command {
+                reads: &words[1..2],
+                task: Task::Extract {
+                    output: output.as_str(),
+                },
+            })
+        }
+        _ => None,
+    }
+}
+
+/// `upgrade IN OUT`.
+fn upgrade_command(words: &[String]) -> Option<Command<'_>>
+    ensures is { option_map asked result ≡ upgrade_words (texts words.now) }
+    ensures inputs { IfSome result (λ c. length c.reads.now ≡ input_count (work_of c.task)) }
+    ensures sized { IfSome result (λ c. HasSize (work_of c.task)) }
+    ensures ruled { IfSome result (λ c. HasRule c.task) }
+{
+    match words {
+        [command, input, output]
+            if command.as_str() == "upgrade"
+                && is_name(input.as_str())
+                && is_name(output.as_str()) => {
+            Some(Command {
+                reads: &words[1..2],
+                task: Task::Upgrade {
                     output: output.as_str(),
                 },
             })

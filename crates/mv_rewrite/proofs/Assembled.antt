@@ -121,8 +121,7 @@ all_simulate b rule (Err e) bytes there small is = tt
 -- and is what is written for it
 pub all_written : (b : List ℕ) (rule : Rule) (r : Result Rewritten RewriteFault) → AreBytes b → IfOk r (λ x. AreBytes x.bytes) → length b ≤ 268435456 → IsRewritten b rule r → IfOk r (λ x. (f : Frame) × IsWrittenFor b rule x.bytes f)
 all_written b rule (Ok r) bytes there small is =
-    let o = output_of b rule r.bytes is.whole bytes small is.bytes in
-    (
+    let o = output_of b rule r.bytes is.whole bytes small is.bytes in (
       frame_is b rule o.base,
       subst (λ (x : List ℕ). IsWrittenFor b rule x (frame_is b rule o.base)) o.same (written_for b rule o.base o.input (subst (λ (l : List ℕ). AreBytes l) (sym o.same) there)),
     )

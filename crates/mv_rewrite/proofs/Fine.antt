@@ -172,7 +172,7 @@ kept_load h = ap (λ n. eqb n 1) (is_kept h).kind
 pub kept_maps : (h : Phdr) → maps (kept_header h) ≡ maps h
 kept_maps h = ap (λ t. t && ltb 0 (kept_header h).memsz) (kept_load h) ∙ ap (λ n. is_load h && ltb 0 n) (is_kept h).memsz
 
--- a moved offset, where the bytes lie in a file of at most 64 MiB
+-- a moved offset, where the bytes lie in a file of at most 256 MiB
 pub moved_offset : (o n : ℕ) → o + n ≤ 268435456 → (o + 0x1000) % 2 ^ 32 ≡ o + 0x1000
 moved_offset o n le = omega arith
 

@@ -6,9 +6,7 @@ ghost use Rattle.mv_base.specs.Bytes.{words};
 ghost use Rattle.elf32_write.specs.File.{added_header as header_of_block, added_headers as headers_of_block, added_len as len_of_block, table_of, table_lo as lo_of_table, private_lo as lo_of_private, list_lo as lo_of_list, code_place as place_of_code, pair_words, place_words, record_words as words_of_record};
 ghost use Rattle.elf32_write.specs.Writing.{EndsLow, record_front};
 
-use crate::file::format::{
-    FRAME_MAGIC, FRAME_VERSION, HEAD_LEN, PAGED_FORM, PRIVATE_LEN,
-};
+use crate::file::format::{FRAME_MAGIC, FRAME_VERSION, HEAD_LEN, PAGED_FORM, PRIVATE_LEN};
 use crate::file::head::{PT_LOAD, SEGMENT_ALIGN};
 use crate::file::part::{put_words, up};
 use crate::plan::Plan;
