@@ -65,14 +65,14 @@ write_image-requires-clause-block g c =
     ends_low c.args.bytes.now c.args.hooks.now c.in_ok-plan.plan (are_laid c.args.bytes.now c.requires.image.whole c.requires.admitted)
     (planned c.args.bytes.now c.args.hooks.now c.args.image.now c.deref-3.result.now c.deref-4.result.now c.in_ok-chains.chains c.in_ok-plan.plan of c.in_ok-plan.ensures.laid)
 
-pub overflow_cast-result : goal.overflow_cast-result
-overflow_cast-result g c =
+pub overflow_cast-count : goal.overflow_cast-count
+overflow_cast-count g c =
     let found : c.in_ok-sites.sites.items ≡ sites c.args.bytes.now = sites_are c.args.bytes.now c.deref.result.now c.in_ok-sites.sites.items c.requires.image.whole (c.deref.ensures.value ∙ c.in_ok-runs.ensures.list) c.in_ok-sites.ensures.listed in
     let most = count (runs_of c.args.bytes.now) (sites c.args.bytes.now) (chains c.args.bytes.now) (are_laid c.args.bytes.now c.requires.image.whole c.requires.admitted) in
-    omega (arith, most, c.len.ensures, c.deref-4.ensures.len, ap (λ (l : List Site). length l) (c.deref-4.ensures.value ∙ found))
+    omega (arith, most, c.len-count.ensures, c.deref-4.ensures.len, ap (λ (l : List Site). length l) (c.deref-4.ensures.value ∙ found))
 
-pub overflow_cast-result-2 : goal.overflow_cast-result-2
-overflow_cast-result-2 g c =
+pub overflow_cast-result : goal.overflow_cast-result
+overflow_cast-result g c =
     let found : c.in_ok-sites.sites.items ≡ sites c.args.bytes.now = sites_are c.args.bytes.now c.deref.result.now c.in_ok-sites.sites.items c.requires.image.whole (c.deref.ensures.value ∙ c.in_ok-runs.ensures.list) c.in_ok-sites.ensures.listed in
     let of : AreOf c.args.bytes.now c.args.image.now c.deref-3.result.now c.deref-4.result.now c.in_ok-chains.chains =
     record {
@@ -83,7 +83,7 @@ overflow_cast-result-2 g c =
     } in
     let is = planned c.args.bytes.now c.args.hooks.now c.args.image.now c.deref-3.result.now c.deref-4.result.now c.in_ok-chains.chains c.in_ok-plan.plan of c.in_ok-plan.ensures.laid in
     let few = counted_few c.args.hooks.now (runs_of c.args.bytes.now) (sites c.args.bytes.now) (chains c.args.bytes.now) (are_laid c.args.bytes.now c.requires.image.whole c.requires.admitted) in
-    omega (arith, few, c.len-2.ensures, counted_are c.args.bytes.now c.args.hooks.now c.in_ok-plan.plan is)
+    omega (arith, few, c.len.ensures, counted_are c.args.bytes.now c.args.hooks.now c.in_ok-plan.plan is)
 
 pub added-requires-clause-planned : goal.added-requires-clause-planned
 added-requires-clause-planned g c =
@@ -111,10 +111,10 @@ returns-clause-rewritten g c =
     record {
       whole = no_refusal c.args.bytes.now c.requires.image.whole c.requires.admitted;
       bytes = output_is c.args.bytes.now c.args.hooks.now c.in_ok-plan.plan is ∙ ap (λ (x : List ℕ). Some x) (sym (c.new.ensures ∙ c.in_ok-file.ensures.file));
-      site_count = omega (arith, c.len.ensures, c.deref-4.ensures.len, ap (λ (l : List Site). length l) (c.deref-4.ensures.value ∙ found));
+      site_count = omega (arith, c.len-count.ensures, c.deref-4.ensures.len, ap (λ (l : List Site). length l) (c.deref-4.ensures.value ∙ found));
       added_lo = is.base_is ∙ ap (λ (s : Span). Some s.lo) (sym c.added.ensures);
       added_len = ap (λ (s : Span). s.len) c.added.ensures;
-      counter_count = c.len-2.ensures ∙ counted_are c.args.bytes.now c.args.hooks.now c.in_ok-plan.plan is;
+      counter_count = c.len.ensures ∙ counted_are c.args.bytes.now c.args.hooks.now c.in_ok-plan.plan is;
     }
 
 pub returns-clause-bytes : goal.returns-clause-bytes
