@@ -9,9 +9,12 @@ pub mod MemStoreState
 pub mod Memory
 pub mod Pieces
 pub mod Printing
+pub mod Reading
 pub mod Span
 pub mod StatusCode
 pub mod Table
 pub mod Text
 -- what holds of them, for the proofs of the crates above
+pub mod Digits
+pub mod Prefixes
 pub mod Words

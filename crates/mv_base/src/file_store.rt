@@ -3,16 +3,13 @@
 ghost use Rattle.std.specs.Prelude.{◌≡◌, List, None, [], false, string_bytes};
 ghost use Rattle.mv_base.specs.Holding.{KeepsLimit};
 
-use crate::pieces::{read_pieces, write_pieces};
+use crate::pieces::read_pieces;
+use crate::replace::write_file;
 use crate::store::{Got, Store, StoreFault};
 use std::alloc::Global;
-use std::fs::{File, OpenOptions};
-use std::io;
-use std::os::unix::fs::OpenOptionsExt;
+use std::fs::File;
+use std::io::ErrorKind;
 use std::rt::Files;
-
-/// The permission bits of a file that is created, less those of the process's umask: what is written is a program.
-const NEW_FILE_MODE: u32 = 0o777;
 
 /// The files of the system. A name is a path. Nobody can say what a file holds, so this store tells nothing of it; its
 /// counts and the name that failed are exact.
@@ -68,8 +65,9 @@ impl<'a, R: Files> Store for FileStore<'a, R> {
 
     fn put(&mut self, name: &str, bytes: &[u8]) -> Result<(), StoreFault> {
         let kept_name = String::from_str(self.alloc, name)?;
-        match write_file(self.files, name, bytes) {
+        match write_file(self.files, self.alloc, name, bytes) {
             Ok(()) => Ok(()),
+            Err(error) if error.kind() == ErrorKind::OutOfMemory => Err(StoreFault::NoMemory),
             Err(_) => {
                 self.failed = kept_name;
                 self.write_faults = self.write_faults.saturating_add(1);
@@ -91,15 +89,4 @@ fn read_file<R: Files>(
 {
     let mut file = File::open(files, path)?;
     read_pieces(&mut file, limit, to)
-}
-
-/// Makes the file at `path` hold `bytes`. A file that is there keeps its permission bits.
-fn write_file<R: Files>(files: &R, path: &str, bytes: &[u8]) -> io::Result<()> {
-    let mut file = OpenOptions::new()
-        .write(true)
-        .create(true)
-        .truncate(true)
-        .mode(NEW_FILE_MODE)
-        .open(files, path)?;
-    write_pieces(&mut file, bytes)
 }

@@ -3,7 +3,7 @@
 ghost use Rattle.std.specs.Prelude.{◌≡◌, ◌+◌, ◌/◌, ◌%◌, ◌^◌, ◌<◌, ◌≤◌, ◌++◌, length, decimal, OnOk, OnErr, IfSome, IfNone};
 ghost use Rattle.mv_base.specs.Appended.{AppendsPrefix};
 ghost use Rattle.mv_base.specs.Bytes.{word_at};
-ghost use Rattle.mv_base.specs.Text.{hex8, hex_digit as hex_digit_of};
+ghost use Rattle.mv_base.specs.Text.{byte_text, hex8, hex_digit as hex_digit_of, hex_text};
 
 use byteorder::{ByteOrder, LittleEndian};
 use itoa::Buffer;
@@ -57,6 +57,26 @@ pub fn put_hex8(n: u32, to: &mut Vec<u8>) -> Result<(), NoMemory>
         hex_digit(n >> 4),
         hex_digit(n),
     ])?;
+    Ok(())
+}
+
+/// Appends a byte as two lower-case hexadecimal digits.
+#[tactic(auto, using(crate::specs::Appended::unchanged), unfolding(crate::specs::Text::byte_text))]
+pub fn put_hex2(byte: u8, to: &mut Vec<u8>) -> Result<(), NoMemory>
+    ensures ok { OnOk result (to.new.items ≡ to.old.items ++ byte_text byte) }
+    ensures no_memory { OnErr result (AppendsPrefix to.old.items to.new.items (byte_text byte)) }
+{
+    to.extend_from_slice(&[hex_digit(u32::from(byte >> 4)), hex_digit(u32::from(byte))])?;
+    Ok(())
+}
+
+/// Appends bytes as two lower-case hexadecimal digits each.
+pub fn put_hex_pairs(bytes: &[u8], to: &mut Vec<u8>) -> Result<(), NoMemory>
+    ensures { OnOk result (to.new.items ≡ to.old.items ++ hex_text bytes.now) }
+{
+    for byte in bytes {
+        put_hex2(*byte, to)?;
+    }
     Ok(())
 }
 

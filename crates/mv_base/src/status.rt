@@ -26,7 +26,11 @@ pub enum Status {
     SinkFault,
     /// A file, or the memory of a traced program, is over its limit.
     TooLarge,
-    /// The file has no frame: no rewrite wrote it.
+    /// The source has a line that cannot be assembled.
+    BadSource,
+    /// The output is not one that follows its input.
+    Differs,
+    /// The file has no frame that keeps the rules of rewritten files.
     NoFrame,
 }
 
@@ -46,6 +50,8 @@ impl Status {
             Status::NoMemory => 8,
             Status::SinkFault => 9,
             Status::TooLarge => 10,
+            Status::BadSource => 11,
+            Status::Differs => 12,
             Status::NoFrame => 13,
         }
     }
