@@ -3,7 +3,6 @@ mod Drafting
 mod Judging
 mod Numbers
 mod OneLog
-mod Prefixes
 mod Runs
 mod Spelling
 mod Splitting

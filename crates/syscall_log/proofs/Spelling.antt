@@ -13,13 +13,15 @@ use Rattle.syscall_log.specs.declared.effect.Effect.{Effect}
 use Rattle.syscall_log.specs.declared.effect.Effect.TheVariants as effect
 use Rattle.syscall_log.specs.declared.item.Item.{Item}
 use Rattle.syscall_log.specs.declared.item.Item.TheVariants as item
-use Rattle.syscall_log.specs.Grammar.{number_text, hex_text, bytes_text, mode_text, effect_words, line_of}
+use Rattle.mv_base.specs.Text.{hex_text}
+use Rattle.syscall_log.specs.Grammar.{number_text, bytes_text, mode_text, effect_words, line_of}
 use Rattle.syscall_log.specs.Meaning.{effect_of}
 use Rattle.syscall_log.specs.Rules.{IsArgument}
 use Rattle.syscall_log.specs.Phases.{IsItem}
-use Rattle.syscall_log.specs.Reading.{behind, number_in, number_and, mode_and, hex_in, bytes_in, write_in, map_in, unmap_in, desc_in, effect_in, cpuid_in, item_in}
+use Rattle.mv_base.specs.Reading.{behind, number_in}
+use Rattle.syscall_log.specs.Reading.{number_and, mode_and, hex_in, bytes_in, write_in, map_in, unmap_in, desc_in, effect_in, cpuid_in, item_in}
 use Rattle.syscall_log.proofs.Steps.{found-if, found-map, found-map_or}
-use Rattle.syscall_log.proofs.Prefixes.{behind-takes}
+use Rattle.mv_base.specs.Prefixes.{behind-takes}
 use Rattle.syscall_log.proofs.Numbers.{number-again, number-found, hex-again, hex-found, bytes-again, bytes-found}
 
 -- a number and a space

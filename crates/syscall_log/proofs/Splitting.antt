@@ -8,7 +8,8 @@ use Rattle.syscall_log.specs.declared.effect.Mode.TheVariants as mode
 use Rattle.syscall_log.specs.declared.effect.Effect.TheVariants as effect
 use Rattle.syscall_log.specs.declared.item.Item.{Item}
 use Rattle.syscall_log.specs.declared.item.Item.TheVariants as item
-use Rattle.syscall_log.specs.Grammar.{number_text, byte_text, hex_text, bytes_text, mode_text, line_of, lines}
+use Rattle.mv_base.specs.Text.{byte_text, hex_text}
+use Rattle.syscall_log.specs.Grammar.{number_text, bytes_text, mode_text, line_of, lines}
 use Rattle.syscall_log.specs.Following.{one_line}
 use Rattle.syscall_log.specs.Phases.{IsItem}
 use Rattle.syscall_log.specs.Reading.{item_in}

@@ -1,7 +1,7 @@
 -- The text of a log: one line an item, each ended by a line feed; words with one space between them. This project's own.
 use Rattle.std.specs.Prelude.{ℕ, List, [], ◌∷◌, ◌++◌, map, codes}
 use Rattle.std.specs.List.{flat_map, join_with_byte}
-use Rattle.mv_base.specs.Text.{hex8, hex_digits}
+use Rattle.mv_base.specs.Text.{hex8, hex_text}
 use Rattle.syscall_log.specs.declared.effect.Mode.{Mode}
 use Rattle.syscall_log.specs.declared.effect.Mode.TheVariants as mode
 use Rattle.syscall_log.specs.declared.effect.Effect.{Effect}
@@ -14,14 +14,6 @@ use Rattle.syscall_log.specs.declared.item.Item.TheVariants as item
 -- a number below 2 ^ 32: eight lower-case hexadecimal digits
 unfoldable pub number_text : ℕ → List ℕ
 number_text n = hex8 n
-
--- a byte: two lower-case hexadecimal digits
-unfoldable pub byte_text : ℕ → List ℕ
-byte_text b = hex_digits 2 b
-
--- bytes, of which there is one at least: their digits in order
-abbrev pub hex_text : List ℕ → List ℕ
-hex_text bytes = flat_map byte_text bytes
 
 -- bytes, of which there may be none: then a dash
 abbrev pub bytes_text : List ℕ → List ℕ

@@ -1,35 +1,14 @@
 -- How a line is read: each function gives what its text spells, or nothing.
-use Rattle.std.specs.Prelude.{ℕ, ◌+◌, ◌*◌, ◌-◌, ◌&&◌, ◌==◌, nat_le, nat_lt, if◌then◌else◌, List, [], ◌∷◌, length, take, drop, codes, Option, Some, None, option_map, option_and_then}
+use Rattle.std.specs.Prelude.{ℕ, ◌==◌, if◌then◌else◌, List, [], length, take, drop, codes, Option, Some, None, option_map, option_and_then}
 use Rattle.std.specs.Option.{option_map_or}
 use Rattle.std.specs.Str.{bytes_eq}
+use Rattle.mv_base.specs.Reading.{behind, number_in, pairs_in}
 use Rattle.syscall_log.specs.declared.effect.Mode.{Mode}
 use Rattle.syscall_log.specs.declared.effect.Mode.TheVariants as mode
 use Rattle.syscall_log.specs.declared.effect.Effect.{Effect}
 use Rattle.syscall_log.specs.declared.effect.Effect.TheVariants as effect
 use Rattle.syscall_log.specs.declared.item.Item.{Item}
 use Rattle.syscall_log.specs.declared.item.Item.TheVariants as item
-
--- a lower-case hexadecimal digit
-abbrev pub digit_value : ℕ → Option ℕ
-digit_value c =
-    if nat_le 48 c && nat_lt c 58 then Some (c - 48)
-    else (if nat_le 97 c && nat_lt c 103 then Some (c - 87) else None)
-
--- the number whose first digits are n, and whose further ones are these
-unfoldable pub hex_value : ℕ → List ℕ → Option ℕ
-hex_value n [] = Some n
-hex_value n (c ∷ text) = option_and_then (λ d. hex_value (16 * n + d) text) (digit_value c)
-
--- eight digits
-unfoldable pub number_in : List ℕ → Option ℕ
-number_in text = if length text == 8 then hex_value 0 text else None
-
--- two digits a byte
-unfoldable pub pairs_in : List ℕ → Option (List ℕ)
-pairs_in [] = Some []
-pairs_in (h ∷ []) = None
-pairs_in (h ∷ l ∷ text) =
-    option_and_then (λ b. option_map (λ bytes. b ∷ bytes) (pairs_in text)) (hex_value 0 (h ∷ l ∷ []))
 
 -- one byte at least
 unfoldable pub hex_in : List ℕ → Option (List ℕ)
@@ -38,12 +17,6 @@ hex_in text = if length text == 0 then None else pairs_in text
 -- bytes, or a dash for none
 unfoldable pub bytes_in : List ℕ → Option (List ℕ)
 bytes_in text = if bytes_eq text (codes "-") then Some [] else hex_in text
-
--- what stands behind a prefix
-unfoldable pub behind : List ℕ → List ℕ → Option (List ℕ)
-behind [] text = Some text
-behind (c ∷ prefix) [] = None
-behind (c ∷ prefix) (x ∷ text) = if x == c then behind prefix text else None
 
 -- a number and a space, and what stands behind them
 unfoldable pub number_and : List ℕ → Option (ℕ × List ℕ)

@@ -10,8 +10,9 @@ use crate::effect::Effect;
 use crate::fault::LineFault;
 use crate::item::Item;
 use crate::phase::Phase;
-use crate::words::{behind, bytes, hex, mode_and, number, number_and};
+use crate::words::{bytes, hex, mode_and, number_and};
 use memchr::memchr;
+use mv_base::{behind, hex8_value};
 use std::alloc::Global;
 
 /// An item that was read, the phase after it, and the text behind its line.
@@ -62,7 +63,7 @@ fn read_item(alloc: Global, line: &[u8]) -> Result<Item, LineFault>
     } else if let Some(text) = behind(b"arg ", line) {
         Ok(Item::Arg(bytes(alloc, text)?))
     } else if let Some(text) = behind(b"ret ", line) {
-        Ok(Item::Ret(number(text).ok_or(LineFault::Unknown)?))
+        Ok(Item::Ret(hex8_value(text).ok_or(LineFault::Unknown)?))
     } else if let Some(text) = behind(b"cpuid ", line) {
         read_cpuid(text)
     } else {
@@ -121,7 +122,7 @@ fn read_unmap(text: &[u8]) -> Result<Effect, LineFault>
     ensures { Reads (unmap_in text.now) result }
 {
     let (lo, text) = number_and(text).ok_or(LineFault::Unknown)?;
-    let len = number(text).ok_or(LineFault::Unknown)?;
+    let len = hex8_value(text).ok_or(LineFault::Unknown)?;
     Ok(Effect::Unmap { lo, len })
 }
 
@@ -131,7 +132,7 @@ fn read_desc(text: &[u8]) -> Result<Effect, LineFault>
     ensures { Reads (desc_in text.now) result }
 {
     let (index, text) = number_and(text).ok_or(LineFault::Unknown)?;
-    let base = number(text).ok_or(LineFault::Unknown)?;
+    let base = hex8_value(text).ok_or(LineFault::Unknown)?;
     Ok(Effect::Desc { index, base })
 }
 
@@ -143,6 +144,6 @@ fn read_cpuid(text: &[u8]) -> Result<Item, LineFault>
     let (eax, text) = number_and(text).ok_or(LineFault::Unknown)?;
     let (ebx, text) = number_and(text).ok_or(LineFault::Unknown)?;
     let (ecx, text) = number_and(text).ok_or(LineFault::Unknown)?;
-    let edx = number(text).ok_or(LineFault::Unknown)?;
+    let edx = hex8_value(text).ok_or(LineFault::Unknown)?;
     Ok(Item::Cpuid { eax, ebx, ecx, edx })
 }

@@ -23,8 +23,6 @@ pub mod laws;
 pub mod log;
 mod phase;
 pub mod read;
-#[cfg(test)]
-mod tests;
 mod words;
 pub mod write;
 

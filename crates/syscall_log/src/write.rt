@@ -1,15 +1,14 @@
 //! The writer of a log's text.
 
 ghost use Rattle.std.specs.Prelude.{◌≡◌, ◌∷◌, [], ◌++◌, ◌<◌, map, OnOk, OnErr};
-ghost use Rattle.mv_base.specs.Text.{hex_digit as hex_digit_of};
 ghost use Rattle.syscall_log.specs.declared.effect.Effect.TheVariants as effect;
 ghost use Rattle.syscall_log.specs.declared.item.Item.TheVariants as item;
-ghost use Rattle.syscall_log.specs.Grammar.{answer_items, byte_text, bytes_text, hex_text, line_of, lines, mode_text, number_text, text_of};
+ghost use Rattle.syscall_log.specs.Grammar.{answer_items, bytes_text, line_of, lines, mode_text, number_text, text_of};
 
 use crate::answer::Answer;
 use crate::effect::{Effect, Mode};
 use crate::log::Log;
-use mv_base::{Bytes, NoMemory, put_hex8};
+use mv_base::{Bytes, NoMemory, put_hex_pairs, put_hex8};
 
 /// Appends the text of a log, the one text that is read as it; nothing is appended where memory runs out.
 pub fn write_log(log: &Log, to: &mut Vec<u8>) -> Result<(), NoMemory>
@@ -127,7 +126,7 @@ fn put_write(lo: u32, bytes: &Bytes, to: &mut Vec<u8>) -> Result<(), NoMemory>
 {
     to.extend_from_slice(b"write ")?;
     put_number_and(lo, to)?;
-    put_hex(bytes, to)
+    put_hex_pairs(bytes.as_slice(), to)
 }
 
 /// Appends the words of a range that is mapped.
@@ -200,37 +199,6 @@ fn put_bytes(bytes: &Bytes, to: &mut Vec<u8>) -> Result<(), NoMemory>
         to.push(b'-')?;
         Ok(())
     } else {
-        put_hex(bytes, to)
-    }
-}
-
-/// Appends bytes in pairs of digits.
-fn put_hex(bytes: &Bytes, to: &mut Vec<u8>) -> Result<(), NoMemory>
-    ensures { OnOk result (to.new.items ≡ to.old.items ++ hex_text bytes.now) }
-{
-    for byte in bytes.as_slice() {
-        put_byte(*byte, to)?;
-    }
-    Ok(())
-}
-
-/// Appends a byte in two digits.
-#[tactic(auto, unfolding(crate::specs::Grammar::byte_text))]
-fn put_byte(byte: u8, to: &mut Vec<u8>) -> Result<(), NoMemory>
-    ensures { OnOk result (to.new.items ≡ to.old.items ++ byte_text byte) }
-{
-    to.extend_from_slice(&[hex_digit(byte >> 4), hex_digit(byte % 16)])?;
-    Ok(())
-}
-
-/// A hexadecimal digit.
-fn hex_digit(digit: u8) -> u8
-    requires { digit < 16 }
-    ensures { result ≡ hex_digit_of digit }
-{
-    if digit < 10 {
-        b'0' + digit
-    } else {
-        b'a' + (digit - 10)
+        put_hex_pairs(bytes.as_slice(), to)
     }
 }
