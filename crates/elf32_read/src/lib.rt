@@ -4,6 +4,7 @@
 //! `fault` names the reasons, in their order; `head` looks for those of the ELF header, `header` for those of one
 //! program header, `headers` for those of all. `image` has the image and its program headers, `reader` reads it
 //! field by field, `run` gives the executable bytes. The definitions in specs/ say the same of the whole file.
+//! `making` makes the image of some code alone, which has no fault.
 #![tactic(auto)]
 
 pub mod fault;
@@ -13,14 +14,13 @@ mod header;
 mod headers;
 pub mod image;
 pub mod limit;
+pub mod making;
 pub mod reader;
 pub mod run;
 
 pub use fault::ImageFault;
 pub use image::{Headers, Image, Phdr, Segment, Segments};
 pub use limit::admit;
+pub use making::code_image;
 pub use reader::{ReadImage, read_image};
 pub use run::{Run, runs};
-
-#[cfg(test)]
-mod tests;
