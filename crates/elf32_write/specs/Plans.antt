@@ -3,7 +3,7 @@ use Rattle.std.specs.Prelude.{◌≡◌, ℕ, ◌+◌, ◌-◌, ◌%◌, ◌^◌
 use Rattle.std.specs.List.{AllByRecursion}
 use Rattle.elf32_write.specs.declared.plan.Plan.{Plan}
 use Rattle.elf32_write.specs.File.{frame_version, paged_form, table_of, table_lo, private_lo, list_lo, added_len, file_of}
-use Rattle.elf32_write.specs.Frame.{Frame, TableAt, frame, frame_input, frame_code, frame_table, counted, has_rules, has_runs, has_size}
+use Rattle.elf32_write.specs.Frame.{Frame, TableAt, frame, frame_input, frame_code, frame_table, frame_map, counted, has_rules, has_runs, has_size}
 
 -- the frame of a plan's file
 unfoldable pub frame_of : List ℕ → Plan → Frame
@@ -49,3 +49,16 @@ pub record ReadsBack (b : List ℕ) (p : Plan) (x : List ℕ) : Type 0 where
   pub table_is : frame_table (frame_of b p) ≡ table_of p
   pub words_are : take ((frame_of b p).list - (frame_of b p).table.lo) (frame_table (frame_of b p)) ≡ p.table
   pub counted_are : counted (frame_of b p) ≡ p.counted
+
+-- what a frame says was added, for an input that starts at this address
+abbrev pub plan_of : ℕ → Frame → Plan
+plan_of start f = record {
+  base = f.added.lo;
+  code = frame_code f;
+  table = take (f.list - f.table.lo) (frame_table f);
+  counted = counted f;
+  runs = f.runs;
+  entry = frame_map f start;
+  rule = f.rule;
+  edge_rule = f.edge_rule;
+}

@@ -13,8 +13,6 @@ ghost use Rattle.elf32_write.specs.Framing.{HasList};
 mod fields;
 mod rules;
 mod table;
-#[cfg(test)]
-mod tests;
 
 use crate::file::format::FLAT_FORM;
 use crate::frame::fields::{
@@ -142,6 +140,13 @@ impl Frame<'_> {
         ensures { result ≡ self.now.code }
     {
         Range::new(field(self.file, CODE_LO), field(self.file, CODE_LEN))
+    }
+
+    /// The address behind the code.
+    pub fn code_end(&self) -> u32
+        ensures { result ≡ self.now.code.lo + self.now.code.len }
+    {
+        field(self.file, CODE_LO) + field(self.file, CODE_LEN)
     }
 
     /// The code.
