@@ -64,3 +64,16 @@ near_size flow.Call len = 0
 near_size flow.JumpVia len = 0
 near_size flow.CallVia len = 0
 near_size flow.Return len = 0
+
+-- the piece of an instruction of these flows: its own bytes, or a direct transfer's
+abbrev pub near_code : Flow → List ℕ → Insn → ℕ → ℕ → List ℕ
+near_code flow.Plain own i here to = own
+near_code flow.System own i here to = own
+near_code flow.Trap own i here to = own
+near_code flow.Jump own i here to = near_bytes i here to
+near_code flow.Branch own i here to = near_bytes i here to
+near_code flow.Count own i here to = near_bytes i here to
+near_code flow.Call own i here to = []
+near_code flow.JumpVia own i here to = []
+near_code flow.CallVia own i here to = []
+near_code flow.Return own i here to = []

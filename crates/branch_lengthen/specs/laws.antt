@@ -1,2 +1,4 @@
+-- how long pieces are
+pub mod Lengths
 -- what a run of each piece comes to
 pub mod Branches

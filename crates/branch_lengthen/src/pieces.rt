@@ -1,10 +1,10 @@
 //! The bytes of pieces. None of these calls takes memory.
 
-ghost use Rattle.std.specs.Prelude.{◌≡◌, ◌≤◌, length};
+ghost use Rattle.std.specs.Prelude.{◌≡◌, ℕ, List, ◌≤◌, length};
 ghost use Rattle.std.specs.List.{concat};
 ghost use Rattle.x86_insn.specs.declared.insn.Flow.TheVariants as flow;
 ghost use Rattle.x86_insn.specs.Flow.{flow_of};
-ghost use Rattle.branch_lengthen.specs.Near.{branch_bytes, count_bytes, jump_bytes, loop_opcode as opcode_of, near_bytes, near_size, IsNear};
+ghost use Rattle.branch_lengthen.specs.Near.{branch_bytes, count_bytes, jump_bytes, loop_opcode as opcode_of, near_bytes, near_code, near_size, IsNear};
 
 use superset::{Piece, Site};
 use x86_insn::{Cond, Flow, Insn, LoopKind};
@@ -52,7 +52,9 @@ pub fn join_piece(here: u32, to: u32) -> Piece
 /// How many bytes the piece of a site has, whose flow is none of calls, returns and jumps through an operand.
 pub fn near_len(site: &Site) -> usize
     requires { IsNear (flow_of site.now.insn) }
-    ensures { result ≡ near_size (flow_of site.now.insn) site.now.len }
+    ensures is { result ≡ near_size (flow_of site.now.insn) site.now.len }
+    ensures bytes { (own : List ℕ) (here to : ℕ) → length own ≡ site.now.len →
+        length (near_code (flow_of site.now.insn) own site.now.insn here to) ≡ result }
 {
     match site.insn.next_kind() {
         Flow::Plain | Flow::System | Flow::Trap => usize::from(site.len),
@@ -117,7 +119,7 @@ fn near_count(kind: LoopKind, here: u32, to: u32) -> [u8; 9]
 }
 
 /// The opcode of LOOPNE, LOOPE, LOOP or JECXZ.
-fn loop_opcode(kind: LoopKind) -> u8
+pub fn loop_opcode(kind: LoopKind) -> u8
     ensures { result ≡ opcode_of kind }
 {
     match kind {

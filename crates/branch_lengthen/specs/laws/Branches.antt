@@ -36,15 +36,15 @@ use Rattle.step_laws.specs.laws.Resting.{rest_reaches, rest_top}
 -- ---- branches
 
 -- where a branch goes
-branch_executed : (s : State) (next : ℕ) (cond : Cond) (rel : ℕ) → executed s (insn.Branch cond rel) next flow.Branch ≡ Next (record s { eip = if holds cond s.core.flags then target_of next rel else next })
+pub branch_executed : (s : State) (next : ℕ) (cond : Cond) (rel : ℕ) → executed s (insn.Branch cond rel) next flow.Branch ≡ Next (record s { eip = if holds cond s.core.flags then target_of next rel else next })
 unfolding hop
 branch_executed s next cond rel =
     ap (after_hop s) (turn_ends s.memory (hop next (insn.Branch cond rel) s.core) s.core (if holds cond s.core.flags then target_of next rel else next) refl)
 
-abbrev branch_spells : Cond → ℕ → Type 0
+abbrev pub branch_spells : Cond → ℕ → Type 0
 branch_spells c n = Spelled (0x0F ∷ (0x80 + cond_number c) ∷ word n) (insn.Branch c n)
 
-branch_spelled : (c : Cond) (n : ℕ) → n < 2 ^ 32 → branch_spells c n
+pub branch_spelled : (c : Cond) (n : ℕ) → n < 2 ^ 32 → branch_spells c n
 unfolding rows
 branch_spelled cond.O n low = with_number (0x0F ∷ 0x80 ∷ []) (λ k. insn.Branch cond.O k) (λ a b c d. refl) (omega arith) refl n low
 branch_spelled cond.No n low = with_number (0x0F ∷ 0x81 ∷ []) (λ k. insn.Branch cond.No k) (λ a b c d. refl) (omega arith) refl n low
@@ -113,7 +113,7 @@ module _ (area : Area) (c : Cond) (here to next rel : ℕ) (o t : State) (at : A
 -- ---- counted loops
 
 -- where LOOP and its kin go
-loop_executed : (s : State) (next : ℕ) (kind : LoopKind) (rel : ℕ) → executed s (insn.Loop kind rel) next flow.Count ≡ Next (record s { core = loop_core kind s.core; eip = if loop_jumps kind (loop_core kind s.core) then target_of next rel else next })
+pub loop_executed : (s : State) (next : ℕ) (kind : LoopKind) (rel : ℕ) → executed s (insn.Loop kind rel) next flow.Count ≡ Next (record s { core = loop_core kind s.core; eip = if loop_jumps kind (loop_core kind s.core) then target_of next rel else next })
 unfolding hop
 loop_executed s next kind rel =
     ap (after_hop s) (turn_ends s.memory (hop next (insn.Loop kind rel) s.core) (loop_core kind s.core) (if loop_jumps kind (loop_core kind s.core) then target_of next rel else next) refl)
