@@ -13,7 +13,7 @@ use Rattle.elf32_read.specs.declared.run.Run.{Run}
 use Rattle.elf32_read.specs.Runs.{code_of, AreSpread}
 use Rattle.superset.specs.declared.site.Site.{Site}
 use Rattle.superset.specs.Sites.{site_at, site_found, run_addresses, addresses, sites_in}
-use Rattle.superset.specs.RunBytes.{code_first, code_later, exec_run, exec_same, range_more, run_byte}
+use Rattle.superset.specs.RunBytes.{code_first, code_later, exec_run, range_more, run_byte, site_same}
 
 site_by : (code : ℕ → Option ℕ) (a b : ℕ) (d : Option (Insn × ℕ)) → code a ≡ Some b → decoded (exec_bytes code a 15) ≡ d → site_at code a ≡ site_found a (fetched (Some b) d)
 unfolding fetch_in
@@ -23,10 +23,6 @@ site_by code a b d h e = rw (h, e)
 pub site_of_run : (r : Run) (k : ℕ) (d : Option (Insn × ℕ)) → k < length r.bytes → decoded (take 15 (drop k r.bytes)) ≡ d → site_at (code_of (r ∷ [])) (r.lo + k) ≡ site_found (r.lo + k) (fetched (Some (get_or r.bytes k 0)) d)
 site_of_run r k d l e =
     site_by (code_of (r ∷ [])) (r.lo + k) (get_or r.bytes k 0) d (run_byte r k ∙ slice_get-get_or r.bytes k 0 l) (ap decoded (exec_run r 15 k) ∙ e)
-
-site_same : (c d : ℕ → Option ℕ) (a hi : ℕ) → a ≤ hi → d hi ≡ None → ((b : ℕ) → a ≤ b → b ≤ hi → c b ≡ d b) → site_at c a ≡ site_at d a
-unfolding fetch_in
-site_same c d a hi l none same = rw (same a (omega arith) l, exec_same c d 15 a hi l none same) refl
 
 filter_same : (f g : ℕ → Option Site) (n lo : ℕ) → ((k : ℕ) → k < n → f (lo + k) ≡ g (lo + k)) → filter_map f (range_with_len lo n) ≡ filter_map g (range_with_len lo n)
 filter_same f g zero lo same = refl

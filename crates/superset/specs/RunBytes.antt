@@ -1,4 +1,4 @@
--- The executable bytes of runs, from an address on.
+-- The executable bytes of runs, from an address on, and the site there.
 use Rattle.std.proofs.Common.{◌≡◌, ℕ, zero, suc, ◌+◌, ◌-◌, ◌<◌, ◌≤◌, ◌⊎◌, true, false, List, [], ◌∷◌, ◌++◌, length, take, drop, get_or, Option, Some, None, refl, sym, ap, ◌∙◌, subst, inl, inr, arith}
 use Rattle.std.specs.Prelude.{slice_get}
 use Rattle.std.specs.List.{range_with_len}
@@ -8,7 +8,9 @@ use Rattle.std.proofs.lemmas.List.{drop_more, drop_all}
 use Rattle.std.proofs.lemmas.Option.{slice_get-get_or, slice_get_past}
 use Rattle.mv_base.specs.Memory.{exec_bytes, within}
 use Rattle.elf32_read.specs.declared.run.Run.{Run}
+use Rattle.x86_insn.specs.Step.{fetch_in}
 use Rattle.elf32_read.specs.Runs.{code_of, AreSpread}
+use Rattle.superset.specs.Sites.{site_at}
 
 -- the executable bytes from an address on, one step at a time
 pub exec_none : (code : ℕ → Option ℕ) (a n : ℕ) → code a ≡ None → exec_bytes code a n ≡ []
@@ -110,3 +112,8 @@ pub apart_ends : (from : ℕ) (rs : List Run) → AreSpread from rs → (k : ℕ
 apart_ends from [] spread k r l e = absurd (omega arith)
 apart_ends from (q ∷ rs) spread zero r l e = subst (λ (x : Run). x.lo + length x.bytes ≤ 0xFFFFF000) (sym e) spread.1
 apart_ends from (q ∷ rs) spread (suc k) r l e = apart_ends (q.lo + length q.bytes + 1) rs spread.2 k r (omega arith) e
+
+-- and so they have the same site
+pub site_same : (c d : ℕ → Option ℕ) (a hi : ℕ) → a ≤ hi → d hi ≡ None → ((b : ℕ) → a ≤ b → b ≤ hi → c b ≡ d b) → site_at c a ≡ site_at d a
+unfolding fetch_in
+site_same c d a hi l none same = rw (same a (omega arith) l, exec_same c d 15 a hi l none same) refl

@@ -3,7 +3,7 @@
 ghost use Rattle.std.specs.Prelude.{◌≡◌, ◌+◌, ◌<◌, ◌≤◌, [], ◌∷◌, ◌++◌, length, option_to_list, IfOk, OnOk};
 ghost use Rattle.std.specs.List.{AllByRecursion};
 ghost use Rattle.elf32_read.specs.Runs.{code_of, AreSpread};
-ghost use Rattle.superset.specs.Sites.{site_at, sites_in, AreSites, EndsLow, HasLength};
+ghost use Rattle.superset.specs.Sites.{site_at as site_of, sites_in, AreSites, EndsLow, HasLength};
 
 use crate::site::Site;
 use elf32_read::Run;
@@ -53,19 +53,32 @@ fn push_site(run: &Run, offset: usize, found: &mut Vec<Site>) -> Result<(), NoMe
     requires ends { run.now.lo + length run.now.bytes ≤ 0xFFFFF000 }
     ensures { OnOk result
         (found.new.items ≡ found.old.items
-        ++ option_to_list (site_at (code_of (run.now ∷ [])) (run.now.lo + offset))) }
+        ++ option_to_list (site_of (code_of (run.now ∷ [])) (run.now.lo + offset))) }
+{
+    match site_at(run, offset) {
+        Some(site) => {
+            found.push(site)?;
+            Ok(())
+        }
+        None => Ok(()),
+    }
+}
+
+/// The site at an offset of a run: the instruction that begins there, where it lies wholly in the run's bytes. It looks
+/// at no more than 15 of them, and takes no memory.
+pub fn site_at(run: &Run, offset: usize) -> Option<Site>
+    requires within { offset < length run.now.bytes }
+    requires ends { run.now.lo + length run.now.bytes ≤ 0xFFFFF000 }
+    ensures { result ≡ site_of (code_of (run.now ∷ [])) (run.now.lo + offset) }
 {
     let tail = &run.bytes.as_slice()[offset..];
     match decode(&tail[..LONGEST.min(tail.len())]) {
-        Decoded::Insn { insn, len } => {
-            found.push(Site {
-                at: run.lo + offset as u32,
-                len,
-                insn,
-            })?;
-            Ok(())
-        }
-        Decoded::Short => Ok(()),
-        Decoded::Unknown => Ok(()),
+        Decoded::Insn { insn, len } => Some(Site {
+            at: run.lo + offset as u32,
+            len,
+            insn,
+        }),
+        Decoded::Short => None,
+        Decoded::Unknown => None,
     }
 }

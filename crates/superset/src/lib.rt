@@ -10,7 +10,7 @@ pub mod piece;
 pub mod site;
 pub mod targets;
 
-pub use disassembly::sites;
+pub use disassembly::{site_at, sites};
 pub use piece::Piece;
 pub use site::Site;
 pub use targets::{successor, target};
