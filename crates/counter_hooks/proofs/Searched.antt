@@ -1,5 +1,5 @@
 -- A binary search of ascending numbers finds exactly what is among them.
-use Rattle.std.proofs.Common.{◌≡◌, ℕ, ◌<◌, ◌≤◌, ◌==◌, ◌⊎◌, inl, inr, false, List, length, get_or, sym, ap, ◌∙◌, subst, arith, eq-or-lt_of_le}
+use Rattle.std.proofs.Common.{◌≡◌, ℕ, ◌<◌, ◌≤◌, ◌==◌, ◌⊎◌, inl, inr, false, List, length, get_or, sym, ap, arith, eq-or-lt_of_le}
 use Rattle.std.proofs.lemmas.Bool.{cases_lt, eq-eqb, ne_eqb}
 use Rattle.std.proofs.lemmas.List.{get_or_default}
 use Rattle.std.proofs.lemmas.List.Folds.{list_any_at, list_any_none}
@@ -8,10 +8,7 @@ use Rattle.std.specs.List.{list_any}
 use Rattle.std.specs.List.Sorted.{IsBinarySearchResult}
 use Rattle.std.specs.Ordering.{nat_cmp}
 use Rattle.std.specs.Prelude.{Result, Ok, Err, is_ok, MatchResult}
-use Rattle.superset.specs.declared.site.Site.{Site}
-use Rattle.counter_hooks.specs.declared.rules.Rule.{Rule}
-use Rattle.counter_hooks.specs.declared.rules.Rule.TheVariants.{At}
-use Rattle.counter_hooks.specs.Rules.{Ascend, IsAscending, picked}
+use Rattle.counter_hooks.specs.Rules.{Ascend}
 
 module _ (xs : List ℕ) (x : ℕ) (up : Ascend xs) where
   rises : (i j : ℕ) → i ≤ j → j < length xs → get_or xs i 0 ≤ get_or xs j 0
@@ -31,9 +28,3 @@ module _ (xs : List ℕ) (x : ℕ) (up : Ascend xs) where
           other : (k d : ℕ) → k < length xs → (k < i) ⊎ (i ≤ k) → (get_or xs k d == x) ≡ false
           other k d l (inl b) = let below = w.1 k b in let same = get_or_default xs k d 0 l in ne_eqb (get_or xs k d) x (omega arith)
           other k d l (inr b) = let above = w.2 k b l in let same = get_or_default xs k d 0 l in ne_eqb (get_or xs k d) x (omega arith)
-
--- so it tells whether a rule picks a site
-pub picked_found : (r : Rule) (s : Site) (xs ys : List ℕ) (p : Result ℕ ℕ) → r ≡ At xs → ys ≡ xs → IsAscending r → IsBinarySearchResult (λ y. nat_cmp y s.at) ys p → is_ok p ≡ picked r s
-picked_found r s xs ys p is same up h =
-    found xs s.at (subst IsAscending is up) p (subst (λ (zs : List ℕ). IsBinarySearchResult (λ y. nat_cmp y s.at) zs p) same h)
-    ∙ ap (λ (r : Rule). picked r s) (sym is)

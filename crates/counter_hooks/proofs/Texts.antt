@@ -1,49 +1,18 @@
 -- Reading digits and addresses, one after the other.
-use Rattle.std.proofs.Common.{◌≡◌, ◌≢◌, ℕ, zero, suc, ◌+◌, ◌*◌, ◌^◌, ◌<◌, ◌≤◌, ◌==◌, Bool, true, false, List, [], ◌∷◌, ◌++◌, length, get_or, drop, take, Option, Some, None, option_map, option_and_then, refl, sym, ap, ◌∙◌, subst, arith, add-one, append_assoc, cond}
-use Rattle.std.proofs.Math.Nat.{pow-le-pow_right, pow-suc}
-use Rattle.std.proofs.Math.Seq.{drop-cons}
-use Rattle.std.proofs.Math.ListN.{drop_of_length-le}
+use Rattle.std.proofs.Common.{◌≡◌, ◌≢◌, ℕ, zero, suc, ◌+◌, ◌<◌, ◌≤◌, ◌==◌, Bool, true, false, List, [], ◌∷◌, ◌++◌, length, drop, take, Option, Some, None, option_map, option_and_then, refl, sym, ap, ◌∙◌, subst, arith, append_assoc, cond}
 use Rattle.std.proofs.lemmas.Bool.{ne_eqb, eq-eqb, leb-true}
 use Rattle.std.proofs.lemmas.List.{length-take, nil_from_length}
 use Rattle.std.proofs.lemmas.Option.{none-some, same_Some, option_and_then_some}
-use Rattle.std.specs.Prelude.{codes, nat_le, slice_index, IfSome, IsSomeAnd, MatchOption, is_some}
-use Rattle.counter_hooks.specs.RuleTexts.{digit_value, hex_value, address_of, first_of, further, addresses_of, most_addresses, word_rule, rule_of}
-use Rattle.counter_hooks.specs.declared.rules.Rule.{Rule}
-use Rattle.counter_hooks.specs.declared.rules.Rule.TheVariants as rule
+use Rattle.std.specs.Borrow.{Bor}
+use Rattle.std.specs.Prelude.{codes, nat_le, slice_index, IfSome, MatchOption}
+use Rattle.mv_base.specs.Reading.{hex_value, number_in}
+use Rattle.counter_hooks.specs.RuleTexts.{first_of, further, addresses_of, list_text}
 use Rattle.std.specs.Str.{bytes_eq}
 use Rattle.counter_hooks.specs.Rules.{Ascend}
 
--- one digit more
-hex_value-next : (n : ℕ) (text : List ℕ) (k : ℕ) → k < length text → hex_value n (drop k text) ≡ option_and_then (λ d. hex_value (16 * n + d) (drop (k + 1) text)) (digit_value (get_or text k 0))
-unfolding hex_value
-hex_value-next n text k below =
-    ap (hex_value n) (drop-cons text k 0 below)
-    ∙ ap (λ j. option_and_then (λ d. hex_value (16 * n + d) (drop j text)) (digit_value (get_or text k 0))) (sym (add-one k))
-
-pub hex_value-some : (n : ℕ) (text : List ℕ) (k d : ℕ) → k < length text → digit_value (get_or text k 0) ≡ Some d → hex_value n (drop k text) ≡ hex_value (16 * n + d) (drop (k + 1) text)
-hex_value-some n text k d below is =
-    hex_value-next n text k below ∙ ap (option_and_then (λ d. hex_value (16 * n + d) (drop (k + 1) text))) is
-
-pub hex_value-none : (n : ℕ) (text : List ℕ) (k : ℕ) → k < length text → digit_value (get_or text k 0) ≡ None → hex_value n (drop k text) ≡ None
-hex_value-none n text k below is =
-    hex_value-next n text k below ∙ ap (option_and_then (λ d. hex_value (16 * n + d) (drop (k + 1) text))) is
-
--- no digit more
-pub hex_value-end : (n : ℕ) (text : List ℕ) (k : ℕ) → length text ≤ k → hex_value n (drop k text) ≡ Some n
-unfolding hex_value
-hex_value-end n text k past = ap (hex_value n) (drop_of_length-le text past)
-
--- a digit more multiplies the bound by 16
-pub below-next : (n d k : ℕ) → n < 16 ^ k → d < 16 → 16 * n + d < 16 ^ (k + 1)
-below-next n d k small digit = let e : 16 ^ (k + 1) ≡ 16 ^ k * 16 = ap (λ j. 16 ^ j) (add-one k) ∙ pow-suc 16 k in omega arith
-
--- fewer than eight digits leave room for one more
-pub below-word : (n k : ℕ) → n < 16 ^ k → k < 8 → n < 16 ^ 7
-below-word n k small few = let le : 16 ^ k ≤ 16 ^ 7 = pow-le-pow_right {n = 16} (omega arith) {i = k} {j = 7} (omega arith) in omega arith
-
 -- fewer than eight digits are no address
 pub first_of-short : (low : ℕ) (text : List ℕ) → length text < 8 → first_of low text ≡ None
-unfolding first_of address_of
+unfolding first_of number_in
 first_of-short low text short =
     let apart : length (take 8 text) ≢ 8 = omega (arith, length-take 8 text) in
     ap (option_and_then (λ n. cond (nat_le low n) (Some (n, drop 8 text)) None)) (ap (λ b. cond b (hex_value 0 (take 8 text)) None) (ne_eqb (length (take 8 text)) 8 apart))
@@ -89,10 +58,6 @@ unfolding addresses_of
 no-room zero low text none = refl
 no-room (suc most) low text none = absurd (omega arith)
 
-pub is_some-map : {A B : Type 0} (f : A → B) (o : Option A) → is_some (option_map f o) ≡ is_some o
-is_some-map f None = refl
-is_some-map f (Some x) = refl
-
 -- the addresses so far, and one more
 pub one-more : (xs : List ℕ) (n : ℕ) (o : Option (List ℕ)) → option_map (λ more. xs ++ more) (option_map (λ more. n ∷ more) o) ≡ option_map (λ more. (xs ++ n ∷ []) ++ more) o
 one-more xs n None = refl
@@ -101,19 +66,17 @@ one-more xs n (Some more) = ap Some (sym (append_assoc xs (n ∷ []) more))
 -- ---- the whole text
 
 module _ (text bytes prefix : List ℕ) (same : bytes ≡ text) (at : prefix ≡ codes "at:") where
-  pub is-list : (list : List ℕ) → bytes_eq (take (length prefix) bytes) prefix ≡ true → list ≡ drop (length prefix) bytes → rule_of text ≡ option_map rule.At (addresses_of most_addresses 0 list)
-  unfolding rule_of
-  is-list list begins behind =
-      let begins' : bytes_eq (take 3 text) (codes "at:") ≡ true = sym (ap (λ p. bytes_eq (take (length p) bytes) p) at ∙ ap (λ t. bytes_eq (take 3 t) (codes "at:")) same) ∙ begins in
-      let behind' : drop 3 text ≡ list = sym (behind ∙ ap (λ p. drop (length p) bytes) at ∙ ap (drop 3) same) in
-      ap (λ b. cond b (option_map rule.At (addresses_of most_addresses 0 (drop 3 text))) (word_rule text)) begins'
-      ∙ ap (λ t. option_map rule.At (addresses_of most_addresses 0 t)) behind'
+  begins-so : bytes_eq (take 3 text) (codes "at:") ≡ bytes_eq (take (length prefix) bytes) prefix
+  begins-so = sym (ap (λ p. bytes_eq (take (length p) bytes) p) at ∙ ap (λ t. bytes_eq (take 3 t) (codes "at:")) same)
 
-  pub is-word : bytes_eq (take (length prefix) bytes) prefix ≡ false → rule_of text ≡ word_rule text
-  unfolding rule_of
-  is-word other =
-      ap (λ b. cond b (option_map rule.At (addresses_of most_addresses 0 (drop 3 text))) (word_rule text)) (
-      sym (ap (λ p. bytes_eq (take (length p) bytes) p) at ∙ ap (λ t. bytes_eq (take 3 t) (codes "at:")) same) ∙ other)
+  pub reads-list : (o : Option (Bor (List ℕ)))
+      → MatchOption o (bytes_eq (take (length prefix) bytes) prefix ≡ false) (λ list. (bytes_eq (take (length prefix) bytes) prefix ≡ true) × (list.now ≡ drop (length prefix) bytes) × (length list.now + length prefix ≡ length bytes))
+      → option_map (λ list. list.now) o ≡ list_text text
+  unfolding list_text
+  reads-list None other = sym (ap (λ b. cond b (Some (drop 3 text)) None) (begins-so ∙ other))
+  reads-list (Some list) behind =
+      ap Some (behind.1 ∙ ap (λ p. drop (length p) bytes) at ∙ ap (drop 3) same)
+      ∙ sym (ap (λ b. cond b (Some (drop 3 text)) None) (begins-so ∙ behind.0))
 
 -- ---- order
 
@@ -137,7 +100,7 @@ rises-ascend low (x ∷ xs) r (suc i) (suc j) k l = rises-ascend (x + 1) xs r.1 
 first-low : (low : ℕ) (text : List ℕ) (p : ℕ × List ℕ) → first_of low text ≡ Some p → low ≤ p.0
 unfolding first_of
 first-low low text p is =
-    option_and_then_some (λ n. cond (nat_le low n) (Some (n, drop 8 text)) None) (address_of (take 8 text)) p is (λ n here found. go n (nat_le low n) refl found)
+    option_and_then_some (λ n. cond (nat_le low n) (Some (n, drop 8 text)) None) (number_in (take 8 text)) p is (λ n here found. go n (nat_le low n) refl found)
   where
     go : (n : ℕ) (b : Bool) → nat_le low n ≡ b → cond b (Some (n, drop 8 text)) None ≡ Some p → low ≤ p.0
     go n true le found = subst (λ (q : ℕ × List ℕ). low ≤ q.0) (same_Some _ p found) (leb-true low n le)
@@ -166,8 +129,3 @@ addresses-rise (suc most) low text xs e =
 pub addresses-ascend : (most : ℕ) (text : List ℕ) (found : Option (List ℕ)) → found ≡ addresses_of most 0 text → IfSome found Ascend
 addresses-ascend most text None e = record {}
 addresses-ascend most text (Some xs) e = rises-ascend 0 xs (addresses-rise most 0 text xs (sym e))
-
-pub mapped : (o : Option (List ℕ)) (r : Option Rule) → MatchOption o (r ≡ None) (λ x. IsSomeAnd r (λ y. y ≡ rule.At x)) → r ≡ option_map rule.At o
-mapped None r h = h
-mapped (Some x) None h = absurd h
-mapped (Some x) (Some y) h = ap Some h

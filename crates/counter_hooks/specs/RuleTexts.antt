@@ -1,28 +1,14 @@
 -- The text of a rule. This project's own. A text is the list of its bytes.
-use Rattle.std.specs.Prelude.{ℕ, zero, suc, ◌+◌, ◌*◌, ◌-◌, ◌&&◌, ◌==◌, nat_le, nat_lt, if◌then◌else◌, List, [], ◌∷◌, length, take, drop, codes, Option, Some, None, option_map, option_and_then}
+use Rattle.std.specs.Prelude.{ℕ, zero, suc, ◌+◌, ◌==◌, nat_le, if◌then◌else◌, List, [], ◌∷◌, take, drop, codes, Option, Some, None, option_map, option_and_then}
 use Rattle.std.specs.Str.{bytes_eq}
+use Rattle.mv_base.specs.Reading.{number_in}
 use Rattle.counter_hooks.specs.declared.rules.Rule.{Rule}
 use Rattle.counter_hooks.specs.declared.rules.Rule.TheVariants as rule
-
--- a lower-case hexadecimal digit
-abbrev pub digit_value : ℕ → Option ℕ
-digit_value c =
-    if nat_le 48 c && nat_lt c 58 then Some (c - 48)
-    else (if nat_le 97 c && nat_lt c 103 then Some (c - 87) else None)
-
--- the number whose first digits are n, and whose further ones are these
-unfoldable pub hex_value : ℕ → List ℕ → Option ℕ
-hex_value n [] = Some n
-hex_value n (c ∷ text) = option_and_then (λ d. hex_value (16 * n + d) text) (digit_value c)
-
--- an address has all its eight digits
-unfoldable pub address_of : List ℕ → Option ℕ
-address_of text = if length text == 8 then hex_value 0 text else None
 
 -- an address that isn't below a bound, and what stands behind its digits
 unfoldable pub first_of : ℕ → List ℕ → Option (ℕ × List ℕ)
 first_of low text =
-    option_and_then (λ n. if nat_le low n then Some (n, drop 8 text) else None) (address_of (take 8 text))
+    option_and_then (λ n. if nat_le low n then Some (n, drop 8 text) else None) (number_in (take 8 text))
 
 -- nothing, or a comma and a list that is read
 abbrev pub further : (List ℕ → Option (List ℕ)) → List ℕ → Option (List ℕ)
@@ -51,8 +37,14 @@ word_rule text =
     else (if bytes_eq text (codes "system") then Some rule.System
     else None)))))
 
+-- what stands behind `at:`, where a text begins with that
+unfoldable pub list_text : List ℕ → Option (List ℕ)
+list_text text = if bytes_eq (take 3 text) (codes "at:") then Some (drop 3 text) else None
+
 -- the rule of a text: `at:` and addresses, or one word
+abbrev pub rule_in : List ℕ → Option (List ℕ) → Option Rule
+rule_in text (Some list) = option_map rule.At (addresses_of most_addresses 0 list)
+rule_in text None = word_rule text
+
 unfoldable pub rule_of : List ℕ → Option Rule
-rule_of text =
-    if bytes_eq (take 3 text) (codes "at:") then option_map rule.At (addresses_of most_addresses 0 (drop 3 text))
-    else word_rule text
+rule_of text = rule_in text (list_text text)

@@ -128,6 +128,8 @@ IsInsn (insn.Call rel) = rel < 2 ^ 32
 IsInsn (insn.JumpVia source) = IsRm source
 IsInsn (insn.CallVia source) = IsRm source
 IsInsn (insn.Ret drop) = drop < 2 ^ 16
+IsInsn (insn.ToGs source) = IsRm source
+IsInsn (insn.FromGs w dst) = IsRm dst
 IsInsn i = Unit {0}
 
 abbrev pub IsSite : Site → Type 0

@@ -78,7 +78,7 @@ impl<F: Question> Hooks<F> {
     }
 }
 
-/// The numbers of a site are values of their fields' types.
-fn is_site(site: Site)
+/// The numbers of a site are values of their fields' types: a site has no others. It stands for no work.
+pub fn is_site(site: Site)
     ensures { IsSite site }
 {}

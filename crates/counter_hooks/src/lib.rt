@@ -12,9 +12,9 @@ pub mod rule_text;
 pub mod rules;
 
 pub use code::{counter_len, counter_piece};
-pub use hooks::{Hooks, Question};
-pub use rule_text::{is_rule, read_rule};
-pub use rules::{Rule, picked, rule_number};
+pub use hooks::{Hooks, Question, is_site};
+pub use rule_text::{is_address_list, is_rule, list_text, read_address_list, read_rule};
+pub use rules::{Rule, is_listed, picked, rule_number};
 
 #[cfg(test)]
 mod tests;

@@ -1,11 +1,11 @@
 //! The text of a rule: `none`, `all`, `calls`, `returns`, `branches`, `system`, or `at:` and addresses.
 
 ghost use Rattle.std.specs.Prelude.{◌≡◌, ◌^◌, ◌<◌, ◌≤◌, length, IfOk, IfSome, is_some, option_map};
-ghost use Rattle.counter_hooks.specs.RuleTexts.{address_of, addresses_of, digit_value as digit_value_of, first_of, hex_value as hex_value_of, most_addresses, rule_of, word_rule as word_rule_of};
+ghost use Rattle.counter_hooks.specs.RuleTexts.{addresses_of, first_of, list_text as list_text_of, most_addresses, rule_of, word_rule as word_rule_of};
 ghost use Rattle.counter_hooks.specs.Rules.{Ascend, IsAscending};
 
 use crate::rules::Rule;
-use mv_base::{Addrs, NoMemory};
+use mv_base::{Addrs, NoMemory, hex8_value};
 use std::alloc::Global;
 
 // How many addresses a rule has at most.
@@ -15,8 +15,8 @@ const MOST_ADDRESSES: usize = 1024;
 pub fn is_rule(text: &str) -> bool
     ensures { result ≡ is_some (rule_of text.now) }
 {
-    match text.as_bytes().strip_prefix(b"at:".as_slice()) {
-        Some(list) => is_list(list),
+    match list_text(text) {
+        Some(list) => is_address_list(list),
         None => word_rule(text).is_some(),
     }
 }
@@ -27,8 +27,8 @@ pub fn read_rule(alloc: Global, text: &str) -> Result<Option<Rule>, NoMemory>
     ensures is { IfOk result (λ rule. rule ≡ rule_of text.now) }
     ensures ascends { IfOk result (λ rule. IfSome rule IsAscending) }
 {
-    match text.as_bytes().strip_prefix(b"at:".as_slice()) {
-        Some(list) => Ok(read_list(alloc, list)?.map(Rule::At)),
+    match list_text(text) {
+        Some(list) => Ok(read_address_list(alloc, list)?.map(Rule::At)),
         None => Ok(word_rule(text)),
     }
 }
@@ -49,8 +49,16 @@ fn word_rule(text: &str) -> Option<Rule>
     }
 }
 
-/// Whether a text is a list of addresses.
-fn is_list(text: &[u8]) -> bool
+/// What stands behind `at:`, where a text begins with that.
+#[tactic(auto, unfolding(crate::specs::RuleTexts::list_text))]
+pub fn list_text(text: &str) -> Option<&[u8]>
+    ensures { option_map (λ list. list.now) result ≡ list_text_of text.now }
+{
+    text.as_bytes().strip_prefix(b"at:".as_slice())
+}
+
+/// Whether a text is a list of addresses: 1 to 1,024 of them, each greater than the one before it. Takes no memory.
+pub fn is_address_list(text: &[u8]) -> bool
     ensures { result ≡ is_some (addresses_of most_addresses 0 text.now) }
 {
     let mut rest = text;
@@ -71,8 +79,8 @@ fn is_list(text: &[u8]) -> bool
     false
 }
 
-/// The addresses of a list.
-fn read_list(alloc: Global, text: &[u8]) -> Result<Option<Addrs>, NoMemory>
+/// The addresses of a list; `None` exactly where the text is none. They strictly ascend. The error is want of memory.
+pub fn read_address_list(alloc: Global, text: &[u8]) -> Result<Option<Addrs>, NoMemory>
     ensures is { IfOk result (λ list. list ≡ addresses_of most_addresses 0 text.now) }
     ensures ascends { IfOk result (λ list. IfSome list Ascend) }
 {
@@ -102,47 +110,10 @@ fn first(low: u64, text: &[u8]) -> Option<(u32, &[u8])>
     ensures { option_map (λ p. (p.0, p.1.now)) result ≡ first_of low text.now }
 {
     let (digits, rest) = text.split_at_checked(8)?;
-    let address = address(digits)?;
+    let address = hex8_value(digits)?;
     if low <= u64::from(address) {
         Some((address, rest))
     } else {
         None
-    }
-}
-
-/// The number of eight digits.
-#[tactic(auto, unfolding(crate::specs::RuleTexts::address_of))]
-fn address(text: &[u8]) -> Option<u32>
-    ensures { result ≡ address_of text.now }
-{
-    if text.len() == 8 {
-        hex_value(text)
-    } else {
-        None
-    }
-}
-
-/// The number of at most eight digits.
-fn hex_value(text: &[u8]) -> Option<u32>
-    requires { length text.now ≤ 8 }
-    ensures value { result ≡ hex_value_of 0 text.now }
-    ensures small { IfSome result (λ n. n < 16 ^ length text.now) }
-{
-    let mut value = 0;
-    for digit in text {
-        value = 16 * value + digit_value(*digit)?;
-    }
-    Some(value)
-}
-
-/// The value of a lower-case hexadecimal digit.
-fn digit_value(digit: u8) -> Option<u32>
-    ensures value { result ≡ digit_value_of digit }
-    ensures small { IfSome result (λ d. d < 16) }
-{
-    match digit {
-        b'0'..=b'9' => Some(u32::from(digit - b'0')),
-        b'a'..=b'f' => Some(u32::from(digit - b'a') + 10),
-        _ => None,
     }
 }

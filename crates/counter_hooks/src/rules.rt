@@ -1,7 +1,8 @@
 //! Rules: which sites are counted.
 
-ghost use Rattle.std.specs.Prelude.{◌≡◌, IfOk};
-ghost use Rattle.counter_hooks.specs.Rules.{IsAscending, number_of, picked as is_picked};
+ghost use Rattle.std.specs.Prelude.{◌≡◌, ◌==◌, IfOk};
+ghost use Rattle.std.specs.List.{list_any};
+ghost use Rattle.counter_hooks.specs.Rules.{Ascend, IsAscending, number_of, picked as is_picked};
 
 use mv_base::{Addrs, NoMemory};
 use std::alloc::Global;
@@ -68,6 +69,14 @@ pub fn picked(rule: &Rule, site: &Site) -> bool
         Rule::Returns => matches!(flow, Flow::Return),
         Rule::Branches => matches!(flow, Flow::Branch | Flow::Count),
         Rule::System => matches!(flow, Flow::System),
-        Rule::At(addresses) => addresses.as_slice().binary_search(&site.at).is_ok(),
+        Rule::At(addresses) => is_listed(addresses, site.at),
     }
+}
+
+/// Whether an address is in a list, whose addresses strictly ascend. By a binary search.
+pub fn is_listed(addresses: &Addrs, address: u32) -> bool
+    requires { Ascend addresses.now }
+    ensures { result ≡ list_any (λ a. a == address) addresses.now }
+{
+    addresses.as_slice().binary_search(&address).is_ok()
 }

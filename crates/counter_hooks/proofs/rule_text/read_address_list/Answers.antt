@@ -1,7 +1,7 @@
 use Rattle.std.proofs.Common.{◌+◌, ◌-◌, rules, tests, ◌++◌, Some, option_map, sym, ap, ◌∙◌, arith}
 use Rattle.counter_hooks.specs.RuleTexts.{addresses_of, most_addresses}
 use Rattle.counter_hooks.proofs.Texts.{no-address, last-address, no-comma, next-address, no-room, one-more, addresses-ascend}
-use Rattle.counter_hooks.proofs.rule_text.read_list.Goals as goal
+use Rattle.counter_hooks.proofs.rule_text.read_address_list.Goals as goal
 
 pub returns-in_default-clause-is : goal.returns-in_default-clause-is
 returns-in_default-clause-is c =

@@ -1,8 +1,9 @@
 use Rattle.std.proofs.Common.{◌+◌, ◌-◌, ◌∷◌, rules, tests, sym, ap, ◌∙◌, arith}
 use Rattle.std.specs.Prelude.{is_some}
 use Rattle.counter_hooks.specs.RuleTexts.{addresses_of, most_addresses}
-use Rattle.counter_hooks.proofs.Texts.{no-address, last-address, no-comma, next-address, no-room, is_some-map}
-use Rattle.counter_hooks.proofs.rule_text.is_list.Goals as goal
+use Rattle.counter_hooks.proofs.Texts.{no-address, last-address, no-comma, next-address, no-room}
+use Rattle.counter_hooks.specs.laws.ListTexts.{is_some-map}
+use Rattle.counter_hooks.proofs.rule_text.is_address_list.Goals as goal
 
 pub returns-in_default : goal.returns-in_default
 returns-in_default c =

@@ -1,6 +1,6 @@
 use Rattle.std.proofs.Common.{◌≡◌, ◌-◌, ◌++◌, option_map}
 use Rattle.counter_hooks.specs.RuleTexts.{addresses_of, most_addresses}
-use Rattle.counter_hooks.proofs.rule_text.read_list.Given as goal
+use Rattle.counter_hooks.proofs.rule_text.read_address_list.Given as goal
 
 abbrev pub invariant-loop : goal.invariant-loop
 invariant-loop l =
