@@ -9,6 +9,3 @@ pub mod laws;
 pub mod pieces;
 
 pub use pieces::{call_piece, call_via_piece, far_len, jump_via_piece, return_piece};
-
-#[cfg(test)]
-mod tests;

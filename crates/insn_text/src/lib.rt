@@ -5,12 +5,10 @@
 //! and `writing` put the text together. Each is a table of its own, so a further instruction is a line in each of them.
 #![tactic(auto)]
 
-mod names;
+pub mod names;
 mod numbers;
 pub mod operand;
 mod operands;
-#[cfg(test)]
-mod tests;
 pub mod writing;
 
 pub use writing::text;

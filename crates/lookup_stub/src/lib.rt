@@ -9,6 +9,3 @@ pub mod code;
 pub mod laws;
 
 pub use code::{MOST_RUNS, stub, stub_byte, stub_len};
-
-#[cfg(test)]
-mod tests;

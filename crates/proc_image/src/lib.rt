@@ -22,8 +22,6 @@ mod mapping;
 pub mod memory;
 mod page;
 pub mod stack;
-#[cfg(test)]
-mod tests;
 
 pub use effects::EffectFault;
 pub use loading::{LoadFault, load};

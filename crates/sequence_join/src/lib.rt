@@ -11,6 +11,3 @@ pub mod joining;
 
 pub use chain::{Chain, ChainList, Span};
 pub use joining::chains;
-
-#[cfg(test)]
-mod tests;

@@ -24,6 +24,3 @@ pub use products::mul;
 pub use quotients::div;
 pub use shifts::shift;
 pub use sums::{alu, bump, logic_test, negate};
-
-#[cfg(test)]
-mod tests;

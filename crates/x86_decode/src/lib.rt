@@ -16,7 +16,5 @@ mod meaning;
 mod opcode_map;
 mod prefixes;
 mod reading;
-#[cfg(test)]
-mod tests;
 
 pub use decoding::{Decoded, decode};

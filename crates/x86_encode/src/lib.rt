@@ -12,8 +12,6 @@ pub mod encoding;
 pub mod laws;
 mod slots;
 pub mod spelling;
-#[cfg(test)]
-mod tests;
 
 pub use encoding::{encode, encoded};
 pub use spelling::Spelling;

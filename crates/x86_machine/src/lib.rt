@@ -33,8 +33,6 @@ mod stack;
 pub mod starting;
 mod strings;
 mod system;
-#[cfg(test)]
-mod tests;
 mod transfers;
 mod turns;
 

@@ -1,6 +1,6 @@
 use Rattle.std.proofs.Common.{◌≡◌, ◌≤◌, ◌+◌, length}
 use Rattle.x86_machine.specs.Stepping.{HasRoom}
-use Rattle.x86_machine.proofs.tests.run.Given as goal
+use Rattle.library_tests.proofs.machine.run.Given as goal
 
 abbrev pub invariant-loop-done : goal.invariant-loop-done
 invariant-loop-done l = record {

@@ -2,7 +2,7 @@
 
 ghost use Rattle.std.specs.Prelude.{◌≡◌};
 
-use crate::{call_piece, call_via_piece, far_len, jump_via_piece, return_piece};
+use call_rewrite::{call_piece, call_via_piece, far_len, jump_via_piece, return_piece};
 use superset::Site;
 use x86_insn::{Insn, Mem, Reg, Rm};
 

@@ -2,9 +2,9 @@
 
 ghost use Rattle.std.specs.Prelude.{◌<◌, length};
 
-use crate::joining::chains;
 use elf32_read::Run;
 use mv_base::Bytes;
+use sequence_join::chains;
 use std::alloc::Global;
 use std::process::Abort;
 use std::test::Fail;

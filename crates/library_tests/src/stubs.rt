@@ -1,6 +1,6 @@
 //! The bytes of the stub, as they are worked out by hand.
 
-use crate::{stub, stub_byte, stub_len};
+use lookup_stub::{stub, stub_byte, stub_len};
 use mv_base::RunPlace;
 
 // The stub of a program of 12 bytes at 0x08048054, for a table of form 2.

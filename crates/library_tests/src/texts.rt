@@ -1,6 +1,6 @@
 //! Texts of instructions of each form, as the Intel SDM spells them.
 
-use crate::text;
+use insn_text::text;
 use std::alloc::Global;
 use std::test::Fail;
 use x86_insn::{

@@ -1,6 +1,6 @@
 //! Values and flags from outside: what a processor gives.
 
-use crate::{alu, bit, bump, div, double, logic_test, mul, negate, scan, shift};
+use x86_alu::{alu, bit, bump, div, double, logic_test, mul, negate, scan, shift};
 use x86_insn::{AluOp, BitOp, Flags, ShiftOp, Width};
 
 /// Every flag clear; its image is 0x202.
