@@ -1,0 +1,14 @@
+mod Addresses
+mod Complete
+mod Forming
+mod Kept
+mod Labelled
+mod Lengths
+mod Lines
+mod Named
+mod Numbers
+mod OneForm
+mod Reading
+mod Spelled
+mod Splitting
+mod Standing
