@@ -2,6 +2,7 @@
 -- it means that an output follows its input and stops where it stops
 pub mod Code
 pub mod Pieces
+pub mod SitePieces
 pub mod Relocated
 pub mod Simulation
 pub mod Stopping

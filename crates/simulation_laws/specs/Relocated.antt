@@ -1,5 +1,5 @@
 -- What an output is to its input before anything runs: how it loads, and what stands where. This project's own.
-use Rattle.std.specs.Prelude.{◌≡◌, ℕ, ◌+◌, ◌^◌, ◌<◌, ◌≤◌, ◌⊎◌, true, false, List, length, Option, Some, None, slice_index}
+use Rattle.std.specs.Prelude.{◌≡◌, ℕ, ◌+◌, ◌^◌, ◌<◌, ◌≤◌, ◌⊎◌, Bool, true, false, List, length, Option, Some, None, slice_index}
 use Rattle.std.specs.List.{AllByRecursion}
 use Rattle.std.specs.Option.{option_map}
 use Rattle.mv_base.specs.Bytes.{AreBytes}
@@ -7,13 +7,15 @@ use Rattle.mv_base.specs.Memory.{Cell, byte_of, exec_byte, is_writable, is_execu
 use Rattle.elf32_read.specs.Fields.{entry_at}
 use Rattle.elf32_read.specs.Faults.{load_refusal}
 use Rattle.elf32_read.specs.Load.{load}
-use Rattle.elf32_write.specs.Frame.{Frame, frame, frame_table, frame_code, frame_map, is_added, is_private, counted_at, kind_at, counted, AscendPairs}
+use Rattle.elf32_write.specs.Frame.{Frame, frame, frame_table, frame_code, frame_map, is_added, is_private, counted, AscendPairs}
 use Rattle.lookup_stub.specs.Stub.{stub}
 use Rattle.lookup_stub.specs.Finding.{IsPlaced}
+use Rattle.counter_hooks.specs.Rules.{is_branch}
 use Rattle.superset.specs.declared.site.Site.{Site}
 use Rattle.simulation_laws.specs.declared.anchors.Anchors.{Anchors}
+use Rattle.simulation_laws.specs.declared.anchors.Ways.{Ways}
 use Rattle.simulation_laws.specs.Code.{site_at, code_in}
-use Rattle.simulation_laws.specs.Pieces.{piece, successor, counter_in, counter_code}
+use Rattle.simulation_laws.specs.Pieces.{piece_with, successor, counter_in, counter_code, ways_by}
 use Rattle.step_laws.specs.Jumps.{jump_bytes}
 use Rattle.x86_insn.specs.Flow.{flow_of, falls}
 
@@ -35,9 +37,26 @@ pub record StandAt (x : List ℕ) (f : Frame) (at : ℕ) (bytes : List ℕ) : Ty
 abbrev pub anchors_of : Frame → Anchors
 anchors_of f = record { stub = f.code.lo; private = f.private }
 
--- where the counter of all executions at an address is
+-- where the counter of a kind at an address is
+abbrev pub kind_of : Frame → ℕ → ℕ → Option ℕ
+kind_of f kind a = counter_in f.first_counter (counted f) kind a
+
+-- that of all executions there, and those of a branch or a loop that is taken, and that is passed
 abbrev pub counter_of : Frame → ℕ → Option ℕ
-counter_of f a = counter_in f.first_counter (counted f) a
+counter_of f a = kind_of f 0 a
+
+abbrev pub ways_of : Frame → ℕ → Option Ways
+ways_of f a = ways_by (kind_of f 1 a) (kind_of f 2 a)
+
+-- both ways are counted or neither, and where they are the instruction is a branch or a loop
+abbrev pub ways_fit : Option ℕ → Option ℕ → Bool → Bool
+ways_fit None None branches = true
+ways_fit (Some taken) (Some passed) branches = branches
+ways_fit (Some taken) None branches = false
+ways_fit None (Some passed) branches = false
+
+abbrev pub fits_ways : Frame → Site → Bool
+fits_ways f s = ways_fit (kind_of f 1 s.at) (kind_of f 2 s.at) (is_branch (flow_of s.insn))
 
 -- the counter of a site, if it has one, to stand where the frame maps the site
 abbrev pub counter_there : Frame → Site → List ℕ
@@ -48,21 +67,17 @@ abbrev pub piece_place : Frame → Site → ℕ
 piece_place f s = frame_map f s.at + length (counter_there f s)
 
 abbrev pub piece_there : List ℕ → Frame → Site → List ℕ
-piece_there b f s = piece (anchors_of f) (frame_map f) (code_in b) (piece_place f s) s
+piece_there b f s = piece_with (anchors_of f) (frame_map f) (code_in b) (ways_of f s.at) (piece_place f s) s
 
 -- a place behind the piece of a site: where the instruction may go on, it is the successor's entry, or a join leads there
 abbrev pub LeadsOn : List ℕ → Frame → ℕ → Site → Type 0
 LeadsOn x f here s =
     falls (flow_of s.insn) ≡ true → (frame_map f (successor s) ≡ here) ⊎ StandAt x f here (jump_bytes here (frame_map f (successor s)))
 
--- an address is counted by no counter but one of all its executions
-abbrev pub CountsWhole : Frame → ℕ → Type 0
-CountsWhole f a = (k : ℕ) → k < f.counters → counted_at f k ≡ a → kind_at f k ≡ 0
-
--- the site has no counter of another kind, and where the frame maps it its counter stands, if it has one, then its piece,
--- and behind it what leads on
+-- the site's ways are counted both or neither, and only a branch's or a loop's; and where the frame maps the site its
+-- counter stands, if it has one, then its piece, and behind it what leads on
 pub record PieceAt (b x : List ℕ) (f : Frame) (s : Site) : Type 0 where
-  pub whole : CountsWhole f s.at
+  pub ways : fits_ways f s ≡ true
   pub counts : StandAt x f (frame_map f s.at) (counter_there f s)
   pub stands : StandAt x f (piece_place f s) (piece_there b f s)
   pub leads : LeadsOn x f (piece_place f s + length (piece_there b f s)) s

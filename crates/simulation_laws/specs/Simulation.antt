@@ -6,15 +6,12 @@ use Rattle.mv_base.specs.Memory.{Memory, IsMemory, is_mapped, is_executable, byt
 use Rattle.mv_base.specs.Effects.{Effect, Answer, IsAnswer, touches}
 use Rattle.x86_insn.specs.State.{IsCore, State}
 use Rattle.x86_insn.specs.declared.registers.Core.{Core}
-use Rattle.x86_insn.specs.declared.insn.Insn.{Insn}
-use Rattle.x86_insn.specs.declared.insn.Insn.TheVariants as insn
-use Rattle.x86_insn.specs.Conditions.{holds}
-use Rattle.x86_insn.specs.Transfers.{loop_core, loop_jumps}
 use Rattle.x86_insn.specs.TakenUp.{taken_up}
 use Rattle.x86_insn.specs.Step.{Fetched, Found, fetch, step}
 use Rattle.x86_insn.specs.Run.{state_after}
 use Rattle.step_laws.specs.Keeping.{marks}
 use Rattle.step_laws.specs.Beside.{shown, exec_cell, IsClearOutcome}
+use Rattle.edge_hooks.specs.Jumping.{insn_jumps}
 use Rattle.elf32_read.specs.Fields.{entry_at}
 use Rattle.elf32_read.specs.Faults.{load_refusal}
 use Rattle.elf32_read.specs.Load.{load}
@@ -80,12 +77,7 @@ pub record Agree (b x : List ℕ) (f : Frame) (o t : State) (c : ℕ → ℕ →
 
 -- ---- following
 
--- whether an instruction jumps, where it is a branch or a loop
-abbrev pub insn_jumps : Insn → Core → Option Bool
-insn_jumps (insn.Branch cond rel) c = Some (holds cond c.flags)
-insn_jumps (insn.Loop kind rel) c = Some (loop_jumps kind (loop_core kind c))
-insn_jumps _ c = None
-
+-- whether what is fetched jumps, where it is a branch or a loop
 abbrev pub fetched_jumps : Fetched → Core → Option Bool
 fetched_jumps (Found i len) c = insn_jumps i c
 fetched_jumps _ c = None

@@ -10,9 +10,12 @@ pub mod StepTable
 pub mod Sound
 pub mod ThroughStub
 pub mod AtSite
--- counters: their places and numbers, and what one in front of a piece comes to
+-- counters: their places and numbers, what one comes to, and a site with its counters
 pub mod Numbers
 pub mod Counters
+pub mod Told
+pub mod Parts
+pub mod EdgeSite
 pub mod CountedSite
 pub mod OneStep
 pub mod Paces

@@ -3,11 +3,16 @@
 #![tactic(auto)]
 
 pub mod anchors;
+mod counters;
+pub mod front;
 pub mod piece;
+pub mod site_pieces;
 mod stub;
 #[cfg(test)]
 mod tests;
 
-pub use anchors::Anchors;
-pub use piece::{piece_at, piece_bytes};
-pub use stub::stub_at;
+pub use anchors::{Anchors, Ways};
+pub use front::{Difference, first_difference};
+pub use piece::{piece_at, piece_difference};
+pub use site_pieces::{SitePiece, site_piece};
+pub use stub::{stub_at, stub_difference};

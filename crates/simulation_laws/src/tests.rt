@@ -1,6 +1,6 @@
 //! A file whose code is the stub of its one run, for a table of form 1, and that file with a byte changed.
 
-use crate::stub_at;
+use crate::{stub_at, stub_difference};
 use elf32_write::read_frame;
 use std::alloc::Global;
 use std::test::Fail;
@@ -23,8 +23,11 @@ const RECORD: [u8; 76] = [
     0x54, 0x80, 0x04, 0x08, 2, 0, 0, 0, 0, 0x10, 0x10, 0,
 ];
 
-// Whether the code of a file with this record begins with the stub, where byte `place` of it is changed.
-fn found(alloc: Global, place: usize) -> Result<Option<bool>, Fail> {
+// Whether the code of a file with this record begins with the stub, where byte `place` of it is changed, and where it first
+// differs.
+type Found = (bool, Option<(u32, u32, u32)>);
+
+fn found(alloc: Global, place: usize) -> Result<Option<Found>, Fail> {
     let mut file = vec![in alloc; 0; 0x900]?;
     file.extend_from_slice(&RECORD)?;
     file.resize(0x1000, 0)?;
@@ -32,14 +35,16 @@ fn found(alloc: Global, place: usize) -> Result<Option<bool>, Fail> {
         file.push(if i == place { !*byte } else { *byte })?;
     }
     file.resize(0x3000, 0)?;
-    Ok(read_frame(&file).map(|frame| stub_at(&frame)))
+    Ok(read_frame(&file).map(|frame| (stub_at(&frame), stub_difference(&frame))))
 }
 
 #[test]
 fn finds_the_stub_byte_by_byte(rt: HostRuntime) -> Result<(), Fail> {
-    assert_eq!(rt; found(rt.alloc(), STUB.len())?, Some(true));
+    assert_eq!(rt; found(rt.alloc(), STUB.len())?, Some((true, None)));
     for place in [0, 24, 30, 37, 42, 76] {
-        assert_eq!(rt; found(rt.alloc(), place)?, Some(false));
+        let kept = u32::from(STUB[place]);
+        let differs = (0x0010_0000 + place as u32, kept, 255 - kept);
+        assert_eq!(rt; found(rt.alloc(), place)?, Some((false, Some(differs))));
     }
     Ok(())
 }

@@ -26,7 +26,7 @@ use Rattle.simulation_laws.specs.Stopping.{ShowsAt, QuietPace}
 use Rattle.simulation_laws.specs.laws.Bounded.{load_low, load_bytes, word_at-lt}
 use Rattle.simulation_laws.specs.laws.Sound.{HasCounts, counts_on, alike_of, agree_of, alike_beyond, sound_after}
 use Rattle.simulation_laws.specs.laws.Numbers.{zeros_spell}
-use Rattle.simulation_laws.specs.laws.CountedSite.{place_is, private_end, counter_byte, at_byte}
+use Rattle.simulation_laws.specs.laws.Told.{place_is, private_end, counter_byte, at_byte}
 use Rattle.simulation_laws.specs.laws.OneStep.{step_meets}
 
 -- ---- two states that are there

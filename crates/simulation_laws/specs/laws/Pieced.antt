@@ -1,10 +1,10 @@
 -- Where a frame's code has a site's piece and what leads on behind it, the site has its law.
-use Rattle.std.proofs.Common.{◌≡◌, ℕ, ◌+◌, ◌-◌, ◌<◌, ◌≤◌, ◌⊎◌, inl, inr, Bool, true, false, ◌||◌, List, [], ◌∷◌, length, drop, Option, Some, None, nat_le, nat_lt, cond, ◌==◌, ◌^◌, take, slice_get, ⊎_elim, refl, sym, ap, ◌∙◌, subst, arith}
-use Rattle.std.specs.Prelude.{not}
-use Rattle.std.proofs.lemmas.Bool.{and_parts, and_from, leb-true, ltb-true, le-leb, lt-ltb, eqb-true, or_cases}
+use Rattle.std.proofs.Common.{◌≡◌, ℕ, ◌+◌, ◌-◌, ◌<◌, ◌≤◌, ◌⊎◌, inl, inr, Bool, true, false, List, [], ◌∷◌, ◌++◌, length, drop, get_or, Option, Some, None, nat_le, nat_lt, cond, ◌==◌, ◌&&◌, take, slice_get, if◌then◌else◌, refl, sym, ap, ◌∙◌, subst, arith}
+use Rattle.std.specs.Prelude.{slice_index, is_none, not}
+use Rattle.std.proofs.lemmas.Bool.{and_parts, and_from, leb-true, ltb-true, le-leb, lt-ltb, eqb-true}
 use Rattle.std.proofs.lemmas.List.{length-drop, length-take, get_or-drop}
 use Rattle.std.proofs.lemmas.Option.{slice_get_past, none-some, same_Some}
-use Rattle.mv_base.specs.Memory.{exec_byte, exec_bytes, within}
+use Rattle.mv_base.specs.Memory.{exec_byte, exec_bytes, is_writable, within}
 use Rattle.x86_insn.specs.declared.insn.Flow.{Flow}
 use Rattle.x86_insn.specs.declared.insn.Flow.TheVariants as flow
 use Rattle.x86_insn.specs.Flow.{flow_of, falls}
@@ -15,54 +15,73 @@ use Rattle.elf32_read.specs.declared.run.Run.{Run}
 use Rattle.elf32_read.specs.Load.{load}
 use Rattle.elf32_read.specs.Runs.{code_of}
 use Rattle.elf32_write.specs.Format.{private_len}
-use Rattle.elf32_write.specs.Frame.{Frame, frame_code, frame_map, is_added, is_private, counted, AscendPairs}
+use Rattle.elf32_write.specs.Frame.{Frame, frame, frame_code, frame_entry, frame_map, is_added, is_private, counted, AscendPairs}
 use Rattle.superset.specs.declared.site.Site.{Site}
 use Rattle.superset.specs.Sites.{site_found}
 use Rattle.superset.specs.RunBytes.{exec_same, exec_run, run_byte, outside_below}
 use Rattle.simulation_laws.specs.declared.anchors.Anchors.{Anchors}
+use Rattle.simulation_laws.specs.declared.anchors.Ways.{Ways}
 use Rattle.simulation_laws.specs.Code.{site_at, code_in}
-use Rattle.simulation_laws.specs.Front.{begins}
-use Rattle.simulation_laws.specs.Pieces.{successor, piece_of}
-use Rattle.simulation_laws.specs.Relocated.{StandAt, IsOutput, anchors_of, counter_there, piece_place, piece_there}
-use Rattle.simulation_laws.specs.Standing.{counts_whole, has_bytes, has_way, has_piece, piece_over, HasRun}
+use Rattle.simulation_laws.specs.Front.{difference}
+use Rattle.simulation_laws.specs.Pieces.{successor, piece_of, piece_with}
+use Rattle.simulation_laws.specs.Relocated.{StandAt, IsOutput, anchors_of, counter_there, fits_ways, piece_place, piece_there, ways_of}
+use Rattle.simulation_laws.specs.Standing.{code_from, is_entry, way_there, site_code, piece_difference, has_piece, HasRun}
 use Rattle.simulation_laws.specs.Stepping.{SiteLaw}
 use Rattle.simulation_laws.specs.laws.CountedSite.{site_law}
-use Rattle.simulation_laws.specs.laws.Counters.{whole_of}
-use Rattle.simulation_laws.specs.laws.Fronts.{begins_same}
+use Rattle.simulation_laws.specs.laws.Parts.{front_of, back_of}
+use Rattle.simulation_laws.specs.laws.Fronts.{none_by, none_fits, none_same}
 use Rattle.simulation_laws.specs.laws.Ruled.{ruled, code_fits}
 
 -- ---- what the code has stands there
 
-pub record HasBytes (f : Frame) (at : ℕ) (bytes : List ℕ) : Type 0 where
+-- a byte of the code from an address on is one of the code
+pub record IsOfCode (f : Frame) (at k : ℕ) : Type 0 where
   pub low : f.code.lo ≤ at
-  pub small : at + length bytes < 2 ^ 32
-  pub room : at + length bytes ≤ f.code.lo + length (frame_code f)
-  pub front : begins bytes (drop (at - f.code.lo) (frame_code f)) ≡ true
+  pub below : at + k < f.code.lo + length (frame_code f)
+  pub byte : get_or (code_from f at) k 0 ≡ get_or (frame_code f) (at - f.code.lo + k) 0
 
-pub has_parts : (f : Frame) (at : ℕ) (bytes : List ℕ) → has_bytes f at bytes ≡ true → HasBytes f at bytes
-has_parts f at bytes h =
-    let p3 = and_parts _ _ h in
-    let p2 = and_parts _ _ p3.0 in
-    let p1 = and_parts _ _ p2.0 in
-    record { low = leb-true f.code.lo at p1.0; small = ltb-true (at + length bytes) (2 ^ 32) p1.1; room = leb-true (at + length bytes) (f.code.lo + length (frame_code f)) p2.1; front = p3.1 }
+pub of_code : (f : Frame) (at k : ℕ) → k < length (code_from f at) → IsOfCode f at k
+of_code f at k lt = go (nat_le f.code.lo at) refl
+  where
+    go : (v : Bool) → nat_le f.code.lo at ≡ v → IsOfCode f at k
+    go true e =
+        let low = leb-true f.code.lo at e in
+        let from : code_from f at ≡ drop (at - f.code.lo) (frame_code f) = ap (λ w. if w then drop (at - f.code.lo) (frame_code f) else []) e in
+        record {
+          low = low;
+          below = omega (arith, lt, low, ap length from, length-drop (at - f.code.lo) (frame_code f));
+          byte = ap (λ t. get_or t k 0) from ∙ get_or-drop (at - f.code.lo) (frame_code f) k 0;
+        }
+    go false e =
+        let from : code_from f at ≡ [] = ap (λ w. if w then drop (at - f.code.lo) (frame_code f) else []) e in
+        absurd (omega (arith, lt, ap length from))
 
-stands_by : (b x : List ℕ) (f : Frame) (at : ℕ) (bytes : List ℕ) → IsOutput b x f → has_bytes f at bytes ≡ true → StandAt x f at bytes
-stands_by b x f at bytes rel h =
+-- a file's memory holds the frame's code, and nothing of the block but the private area may be written
+pub record HoldsCode (x : List ℕ) (f : Frame) : Type 0 where
+  pub framed : frame x ≡ Some f
+  pub code : (k : ℕ) → k < length (frame_code f) → exec_byte (load x) (f.code.lo + k) ≡ Some (slice_index (frame_code f) k)
+  pub fixed : (a : ℕ) → is_added f a ≡ true → is_private f a ≡ false → is_writable (load x) a ≡ false
+
+pub output_holds : (b x : List ℕ) (f : Frame) → IsOutput b x f → HoldsCode x f
+output_holds b x f rel = record { framed = rel.framed; code = rel.code; fixed = rel.fixed }
+
+pub stands_by : (x : List ℕ) (f : Frame) (at k : ℕ) (bytes : List ℕ) → HoldsCode x f → difference k bytes (code_from f at) ≡ None → StandAt x f at bytes
+stands_by x f at k bytes rel h =
     let is = ruled x f rel.framed in
-    let w = has_parts f at bytes h in
     let fits = code_fits f in
-    let below : (k : ℕ) → k < length bytes → at + k < f.code.lo + f.code.len = λ k lt. omega (arith, w.room, fits, lt) in
-    let inside : (k : ℕ) → k < length bytes → is_added f (at + k) ≡ true =
-    λ k lt. and_from (nat_le f.added.lo (at + k)) (nat_lt (at + k) (f.added.lo + f.added.len)) (le-leb f.added.lo (at + k) (omega (arith, is.added, w.low)))
-    (lt-ltb (at + k) (f.added.lo + f.added.len) (omega (arith, below k lt, is.code, is.table, is.fits))) in
-    let outside : (k : ℕ) → k < length bytes → is_private f (at + k) ≡ false = λ k lt. outside_below f.private (private_len f.counters) (at + k) (omega (arith, below k lt, is.code, is.table)) in
-    let place : (k : ℕ) → f.code.lo + (at - f.code.lo + k) ≡ at + k = λ k. omega (arith, w.low) in
+    let there : (j : ℕ) → j < length bytes → IsOfCode f at j = λ j lt. of_code f at j (omega (arith, lt, none_fits k bytes (code_from f at) h)) in
+    let below : (j : ℕ) → j < length bytes → at + j < f.code.lo + f.code.len = λ j lt. omega (arith, (there j lt).below, fits) in
+    let inside : (j : ℕ) → j < length bytes → is_added f (at + j) ≡ true =
+    λ j lt. and_from (nat_le f.added.lo (at + j)) (nat_lt (at + j) (f.added.lo + f.added.len)) (le-leb f.added.lo (at + j) (omega (arith, is.added, (there j lt).low)))
+    (lt-ltb (at + j) (f.added.lo + f.added.len) (omega (arith, below j lt, is.code, is.table, is.fits))) in
+    let outside : (j : ℕ) → j < length bytes → is_private f (at + j) ≡ false = λ j lt. outside_below f.private (private_len f.counters) (at + j) (omega (arith, below j lt, is.code, is.table)) in
+    let place : (j : ℕ) → j < length bytes → f.code.lo + (at - f.code.lo + j) ≡ at + j = λ j lt. omega (arith, (there j lt).low) in
     record {
-      byte = λ k lt.
-          ap (exec_byte (load x)) (sym (place k))
-          ∙ (rel.code (at - f.code.lo + k) (omega (arith, w.room, w.low, lt))
-          ∙ ap Some (sym (get_or-drop (at - f.code.lo) (frame_code f) k 0) ∙ begins_same bytes (drop (at - f.code.lo) (frame_code f)) k w.front lt));
-      fixed = λ k lt. rel.fixed (at + k) (inside k lt) (outside k lt);
+      byte = λ j lt.
+          ap (exec_byte (load x)) (sym (place j lt))
+          ∙ (rel.code (at - f.code.lo + j) (omega (arith, (there j lt).low, (there j lt).below))
+          ∙ ap Some (sym (there j lt).byte ∙ none_same k bytes (code_from f at) j h lt));
+      fixed = λ j lt. rel.fixed (at + j) (inside j lt) (outside j lt);
       added = inside;
       public = outside;
     }
@@ -124,26 +143,54 @@ piece_same flow.JumpVia an move code other here s e = refl
 piece_same flow.CallVia an move code other here s e = refl
 piece_same flow.Return an move code other here s e = refl
 
+with_same : (an : Anchors) (move : ℕ → ℕ) (code other : ℕ → Option ℕ) (ways : Option Ways) (here : ℕ) (s : Site) → exec_bytes code s.at s.len ≡ exec_bytes other s.at s.len → piece_with an move code ways here s ≡ piece_with an move other ways here s
+with_same an move code other None here s e = piece_same (flow_of s.insn) an move code other here s e
+with_same an move code other (Some ways) here s e = refl
+
 -- ---- the law
 
-way_by : (b x : List ℕ) (f : Frame) (here : ℕ) (s : Site) → IsOutput b x f → has_way f here s ≡ true → falls (flow_of s.insn) ≡ true → (frame_map f (successor s) ≡ here) ⊎ StandAt x f here (jump_bytes here (frame_map f (successor s)))
-way_by b x f here s rel h on =
-    let join = jump_bytes here (frame_map f (successor s)) in
-    let known : (not (falls (flow_of s.insn)) || frame_map f (successor s) == here) ≡ (false || frame_map f (successor s) == here) = ap (λ t. not t || frame_map f (successor s) == here) on in
-    let either = or_cases (not (falls (flow_of s.insn)) || frame_map f (successor s) == here) (has_bytes f here join) h in
-    ⊎_elim (λ e. inl (eqb-true (frame_map f (successor s)) here (sym known ∙ e))) (λ e. inr (stands_by b x f here join rel e)) either
+-- what leads on stands: the successor's entry is there, or a join
+way_by : (x : List ℕ) (f : Frame) (here : ℕ) (s : Site) → StandAt x f here (way_there f here s) → falls (flow_of s.insn) ≡ true → (frame_map f (successor s) ≡ here) ⊎ StandAt x f here (jump_bytes here (frame_map f (successor s)))
+way_by x f here s stands on = go (is_entry f (successor s) here) refl
+  where
+    join : List ℕ
+    join = jump_bytes here (frame_map f (successor s))
+
+    go : (v : Bool) → is_entry f (successor s) here ≡ v → (frame_map f (successor s) ≡ here) ⊎ StandAt x f here join
+    go true e =
+        let p = and_parts (not (frame_entry f (successor s) == 0)) (frame_entry f (successor s) == here) e in
+        inl (mapped (frame_entry f (successor s) == 0) p.0 ∙ eqb-true (frame_entry f (successor s)) here p.1)
+      where
+        mapped : (v : Bool) → not v ≡ true → (if v then successor s else frame_entry f (successor s)) ≡ frame_entry f (successor s)
+        mapped true h = absurd (cc h)
+        mapped false h = refl
+    go false e =
+        inr (subst (StandAt x f here)
+        (ap (λ v. if v && not (is_entry f (successor s) here) then join else []) on ∙ ap (λ v. if true && not v then join else []) e) stands)
+
+-- over the input's own code
+pub pieced_in : (b x : List ℕ) (f : Frame) (s : Site) → AscendPairs (counted f) → has_piece f (code_in b) s ≡ true → IsOutput b x f → SiteLaw b x f s
+pieced_in b x f s ascends h rel =
+    let w = and_parts (fits_ways f s) (is_none (piece_difference f (code_in b) s)) h in
+    let piece = piece_there b f s in
+    let way = way_there f (piece_place f s + length piece) s in
+    let none = none_by (piece_difference f (code_in b) s) w.1 in
+    let whole = stands_by x f (frame_map f s.at) 0 (site_code f (code_in b) s) (output_holds b x f rel) none in
+    let rest = back_of x f (frame_map f s.at) (counter_there f s) (piece ++ way) whole in
+    site_law b x f s rel ascends (record {
+      ways = w.0;
+      counts = front_of x f (frame_map f s.at) (counter_there f s) (piece ++ way) whole;
+      stands = front_of x f (piece_place f s) piece way rest;
+      leads = λ on. way_by x f (piece_place f s + length piece) s (back_of x f (piece_place f s) piece way rest) on;
+    })
+
+-- a site's code is the same over codes that have the same bytes of its own
+pub difference_same : (f : Frame) (code other : ℕ → Option ℕ) (s : Site) → exec_bytes code s.at s.len ≡ exec_bytes other s.at s.len → piece_difference f code s ≡ piece_difference f other s
+difference_same f code other s same =
+    ap (λ p. difference 0 (counter_there f s ++ (p ++ way_there f (piece_place f s + length p) s)) (code_from f (frame_map f s.at)))
+    (with_same (anchors_of f) (frame_map f) code other (ways_of f s.at) (piece_place f s) s same)
 
 pub pieced : (b x : List ℕ) (f : Frame) (r : Run) (s : Site) → site_at (code_of (r ∷ [])) s.at ≡ Some s → AscendPairs (counted f) → has_piece f (code_of (r ∷ [])) s ≡ true → IsOutput b x f → HasRun b r → SiteLaw b x f s
 pieced b x f r s site ascends h rel has =
-    let is = site_of_run r s site in
-    let over = piece_over f (code_of (r ∷ [])) s in
-    let p = and_parts _ (has_way f (piece_place f s + length over) s) h in
-    let q = and_parts _ (has_bytes f (piece_place f s) over) p.0 in
-    let w = and_parts (counts_whole f s.at) (has_bytes f (frame_map f s.at) (counter_there f s)) q.0 in
-    let same : over ≡ piece_there b f s = sym (piece_same (flow_of s.insn) (anchors_of f) (frame_map f) (code_in b) (code_of (r ∷ [])) (piece_place f s) s (own_same b r s is has)) in
-    site_law b x f s rel ascends (record {
-      whole = whole_of f s.at w.0;
-      counts = stands_by b x f (frame_map f s.at) (counter_there f s) rel w.1;
-      stands = subst (StandAt x f (piece_place f s)) same (stands_by b x f (piece_place f s) over rel q.1);
-      leads = λ on. way_by b x f (piece_place f s + length (piece_there b f s)) s rel (subst (λ (l : List ℕ). has_way f (piece_place f s + length l) s ≡ true) same p.1) on;
-    })
+    let same = difference_same f (code_in b) (code_of (r ∷ [])) s (own_same b r s (site_of_run r s site) has) in
+    pieced_in b x f s ascends (ap (λ d. fits_ways f s && is_none d) same ∙ h) rel
