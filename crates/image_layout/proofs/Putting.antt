@@ -1,29 +1,36 @@
 -- Code part by part: what is written, and what is still to be written.
-use Rattle.std.proofs.Common.{◌≡◌, ℕ, ◌+◌, ◌*◌, ◌<◌, ◌≤◌, true, cond, List, [], ◌∷◌, ◌++◌, length, get_or, drop, map, Option, Some, None, refl, sym, ap, ◌∙◌, subst, arith}
+use Rattle.std.proofs.Common.{◌≡◌, ℕ, ◌+◌, ◌*◌, ◌<◌, ◌≤◌, Bool, true, false, cond, List, [], ◌∷◌, ◌++◌, length, get_or, drop, map, Option, Some, None, refl, sym, ap, ◌∙◌, subst, arith}
 use Rattle.std.specs.Prelude.{IfSome, slice_get, slice_index}
+use Rattle.std.specs.Option.{ForSome}
+use Rattle.std.proofs.lemmas.Bool.{true≢false}
 use Rattle.std.proofs.lemmas.List.{length-append, append_assoc, append-nil}
 use Rattle.std.proofs.lemmas.List.Concat.{flat_map-append}
-use Rattle.std.proofs.lemmas.Option.{slice_get-get_or}
+use Rattle.std.proofs.lemmas.Option.{none-some, slice_get-get_or}
 use Rattle.mv_base.specs.Memory.{exec_bytes}
 use Rattle.x86_insn.specs.declared.insn.Flow.{Flow}
 use Rattle.x86_insn.specs.declared.insn.Flow.TheVariants as flow
+use Rattle.x86_insn.specs.Flow.{flow_of}
 use Rattle.branch_lengthen.specs.Near.{near_bytes}
 use Rattle.call_rewrite.specs.Far.{far_bytes, load_of}
 use Rattle.map_table.specs.Pairs.{Ascend}
-use Rattle.counter_hooks.specs.declared.rules.Rule.{Rule}
-use Rattle.counter_hooks.specs.Rules.{picked}
+use Rattle.image_layout.specs.Rules.{Rules}
+use Rattle.counter_hooks.specs.Rules.{picked, is_branch}
+use Rattle.counter_hooks.specs.Counter.{counter}
+use Rattle.edge_hooks.specs.Rules.{edge_picked}
+use Rattle.edge_hooks.specs.Edges.{edge_bytes}
 use Rattle.superset.specs.declared.site.Site.{Site}
 use Rattle.sequence_join.specs.Chains.{Chain}
 use Rattle.simulation_laws.specs.declared.anchors.Anchors.{Anchors}
-use Rattle.simulation_laws.specs.Pieces.{successor, target, piece, piece_of, counter_code, counted_piece}
+use Rattle.simulation_laws.specs.declared.anchors.Ways.{Ways}
+use Rattle.simulation_laws.specs.Pieces.{successor, target, piece_of, piece_with, counter_code, counted_piece, ways_by}
 use Rattle.image_layout.specs.Parts.{Part, Piece, Join, join_parts, link_parts, chain_parts, parts, part_len, parts_len, placed}
 use Rattle.image_layout.specs.Measuring.{AreRanks}
-use Rattle.image_layout.specs.Pieces.{is_direct, is_own, counters, code_lens, site_code, part_bytes, bytes_of}
+use Rattle.image_layout.specs.Pieces.{is_direct, is_own, all_place, ways_place, counters, code_lens, site_code, part_bytes, bytes_of}
 use Rattle.image_layout.specs.Sites.{AreWhole}
 use Rattle.image_layout.specs.laws.Placing.{placed-append, length-code_at}
 use Rattle.image_layout.specs.laws.SiteFacts.{site_address}
-use Rattle.image_layout.specs.laws.Sizes.{lens_at, part_sized}
-use Rattle.image_layout.specs.laws.Counters.{rank_most, counter_is, counter_sized}
+use Rattle.image_layout.specs.laws.Sizes.{counter_sized, lens_at, part_sized}
+use Rattle.image_layout.specs.laws.Counters.{rank_most, IsCountedAt, counted_at, counted_first, picked_branches}
 use Rattle.image_layout.proofs.Steps.{links_rest, links_none, chains_rest}
 
 module _ (lens : List ℕ) (bytes : ℕ → Part → List ℕ) (stub : ℕ) where
@@ -115,53 +122,102 @@ own_piece flow.JumpVia an move code here s e = absurd cc
 own_piece flow.CallVia an move code here s e = absurd cc
 own_piece flow.Return an move code here s e = absurd cc
 
+-- the same of a piece with counters on its ways, which goes to its target
+pub with_by : (ways : Option Ways) (an : Anchors) (move : ℕ → ℕ) (code : ℕ → Option ℕ) (here : ℕ) (s : Site) (to : ℕ) → ForSome ways (λ w. is_branch (flow_of s.insn) ≡ true) → to ≡ cond (is_direct (flow_of s.insn)) (move (target s)) 0 → piece_with an (λ _. to) code ways here s ≡ piece_with an move code ways here s
+with_by None an move code here s to branches e = piece_by (flow_of s.insn) an move code here s to e
+with_by (Some w) an move code here s to branches e =
+    ap (λ n. edge_bytes s.insn here n (counter an.private w.passed) (counter an.private w.taken)) (e ∙ ap (λ (t : Bool). cond t (move (target s)) 0) (branch_direct (flow_of s.insn) (branches w refl)))
+  where
+    branch_direct : (f : Flow) → is_branch f ≡ true → is_direct f ≡ true
+    branch_direct flow.Branch is = refl
+    branch_direct flow.Count is = refl
+    branch_direct flow.Plain is = absurd (true≢false (sym is))
+    branch_direct flow.System is = absurd (true≢false (sym is))
+    branch_direct flow.Trap is = absurd (true≢false (sym is))
+    branch_direct flow.Jump is = refl
+    branch_direct flow.Call is = refl
+    branch_direct flow.JumpVia is = absurd (true≢false (sym is))
+    branch_direct flow.CallVia is = absurd (true≢false (sym is))
+    branch_direct flow.Return is = absurd (true≢false (sym is))
+
+-- an instruction that is copied has no ways
+pub own_with : (ways : Option Ways) (an : Anchors) (move : ℕ → ℕ) (code : ℕ → Option ℕ) (here : ℕ) (s : Site) → ForSome ways (λ w. is_branch (flow_of s.insn) ≡ true) → is_own (flow_of s.insn) ≡ true → exec_bytes code s.at s.len ≡ piece_with an move code ways here s
+own_with None an move code here s branches e = own_piece (flow_of s.insn) an move code here s e
+own_with (Some w) an move code here s branches e = absurd (never (flow_of s.insn) (branches w refl) e)
+  where
+    never : (f : Flow) → is_branch f ≡ true → is_own f ≡ true → ⊥
+    never flow.Branch is own = true≢false (sym own)
+    never flow.Count is own = true≢false (sym own)
+    never flow.Plain is own = true≢false (sym is)
+    never flow.System is own = true≢false (sym is)
+    never flow.Trap is own = true≢false (sym is)
+    never flow.Jump is own = true≢false (sym own)
+    never flow.Call is own = true≢false (sym own)
+    never flow.JumpVia is own = true≢false (sym own)
+    never flow.CallVia is own = true≢false (sym own)
+    never flow.Return is own = true≢false (sym own)
+
 -- a counter and a piece, one behind the other
-pub put_counted : (an : Anchors) (move : ℕ → ℕ) (code : ℕ → Option ℕ) (place : Option ℕ) (k here n : ℕ) (s : Site) (now front mid new : List ℕ) → place ≡ Some k → front ≡ counter_code an (Some k) → n ≡ length front → mid ≡ now ++ front → new ≡ mid ++ piece an move code (here + n) s → new ≡ now ++ counted_piece an move code place here s
-put_counted an move code place k here n s now front mid new place_is front_is n_is mid_is new_is =
+pub put_counted : (an : Anchors) (move : ℕ → ℕ) (code : ℕ → Option ℕ) (place : Option ℕ) (ways : Option Ways) (k here n : ℕ) (s : Site) (now front mid new : List ℕ) → place ≡ Some k → front ≡ counter_code an (Some k) → n ≡ length front → mid ≡ now ++ front → new ≡ mid ++ piece_with an move code ways (here + n) s → new ≡ now ++ counted_piece an move code place ways here s
+put_counted an move code place ways k here n s now front mid new place_is front_is n_is mid_is new_is =
     let c = counter_code an (Some k) in
     let at : here + n ≡ here + length c = omega (arith, n_is, ap (λ (l : List ℕ). length l) front_is) in
     new_is
-    ∙ (ap (λ m. mid ++ piece an move code m s) at
-    ∙ (ap (λ (l : List ℕ). l ++ piece an move code (here + length c) s) (mid_is ∙ ap (λ (l : List ℕ). now ++ l) front_is)
-    ∙ (append_assoc now c (piece an move code (here + length c) s)
-    ∙ ap (λ (o : Option ℕ). now ++ counted_piece an move code o here s) (sym place_is))))
+    ∙ (ap (λ m. mid ++ piece_with an move code ways m s) at
+    ∙ (ap (λ (l : List ℕ). l ++ piece_with an move code ways (here + length c) s) (mid_is ∙ ap (λ (l : List ℕ). now ++ l) front_is)
+    ∙ (append_assoc now c (piece_with an move code ways (here + length c) s)
+    ∙ ap (λ (o : Option ℕ). now ++ counted_piece an move code o ways here s) (sym place_is))))
 
-pub put_alone : (an : Anchors) (move : ℕ → ℕ) (code : ℕ → Option ℕ) (place : Option ℕ) (here : ℕ) (s : Site) (now new : List ℕ) → place ≡ None → new ≡ now ++ piece an move code here s → new ≡ now ++ counted_piece an move code place here s
-put_alone an move code place here s now new place_is new_is =
+pub put_alone : (an : Anchors) (move : ℕ → ℕ) (code : ℕ → Option ℕ) (place : Option ℕ) (ways : Option Ways) (here : ℕ) (s : Site) (now new : List ℕ) → place ≡ None → new ≡ now ++ piece_with an move code ways here s → new ≡ now ++ counted_piece an move code place ways here s
+put_alone an move code place ways here s now new place_is new_is =
     let at : here ≡ here + 0 = omega arith in
-    new_is ∙ (ap (λ m. now ++ piece an move code m s) at ∙ ap (λ (o : Option ℕ). now ++ counted_piece an move code o here s) (sym place_is))
+    new_is ∙ (ap (λ m. now ++ piece_with an move code ways m s) at ∙ ap (λ (o : Option ℕ). now ++ counted_piece an move code o ways here s) (sym place_is))
 
 pub there_is : (P : Site → Type 0) (ss : List Site) (k : ℕ) (d : Site) → k < length ss → IfSome (slice_get ss k) P → P (get_or ss k d)
 there_is P ss k d lt h = subst (λ (o : Option Site). IfSome o P) (slice_get-get_or ss k d lt) h
 
--- no rank is above the number of sites
-pub rank_low : (rule : Rule) (ss : List Site) (ranks : List ℕ) (k : ℕ) → AreRanks rule ss ranks → k < length ss → slice_index ranks k ≤ length ss
-rank_low rule ss ranks k are lt = omega (arith, are.are k lt, rank_most rule ss k)
+-- a rank and the counters of its site are within three for each site
+pub rank_low : (rules : Rules) (ss : List Site) (ranks : List ℕ) (k : ℕ) → AreRanks rules ss ranks → k < length ss → slice_index ranks k + 3 ≤ 3 * length ss
+rank_low rules ss ranks k are lt = omega (arith, are.are k lt, rank_most rules ss k lt)
 
-module _ (rule : Rule) (an : Anchors) (ss : List Site) (asc : Ascend 0 (map site_address ss)) (ranks : List ℕ) (are : AreRanks rule ss ranks) (k : ℕ) (d : Site) (lt : k < length ss) where
+module _ (rules : Rules) (an : Anchors) (ss : List Site) (asc : Ascend 0 (map site_address ss)) (ranks : List ℕ) (are : AreRanks rules ss ranks) (k : ℕ) (d : Site) (lt : k < length ss) where
   abbrev s : Site
   s = get_or ss k d
 
   there : slice_get ss k ≡ Some (get_or ss k d)
   there = slice_get-get_or ss k d lt
 
-  module _ (place : Option ℕ) (place_is : place ≡ cond (picked rule (get_or ss k d)) (Some (an.private + 64 + 8 * slice_index ranks k)) None) where
-    place_there : place ≡ counters rule an ss s.at
-    place_there = place_is ∙ (ap (λ n. cond (picked rule s) (Some (an.private + 64 + 8 * n)) None) (are.are k lt) ∙ sym (counter_is rule (an.private + 64) 0 ss k s asc there))
+  at : IsCountedAt rules (counters rules an ss) (get_or ss k d)
+  at = counted_at rules an 0 ss k (get_or ss k d) asc there
+
+  first_is : at.first ≡ an.private + 64 + 8 * slice_index ranks k
+  unfolding at
+  first_is = counted_first rules an 0 ss k s asc there ∙ ap (λ n. an.private + 64 + 8 * n) (sym (are.are k lt))
+
+  module _ (all : Option ℕ) (ways : Option Ways) (all_is : all ≡ all_place (an.private + 64 + 8 * slice_index ranks k) (picked rules.all (get_or ss k d))) (ways_is : ways ≡ ways_place (an.private + 64 + 8 * slice_index ranks k) (picked rules.all (get_or ss k d)) (edge_picked rules.ways (get_or ss k d))) where
+    all_there : all ≡ counters rules an ss 0 s.at
+    all_there = all_is ∙ (ap (λ n. all_place n (picked rules.all s)) (sym first_is) ∙ sym at.all)
+
+    ways_there : ways ≡ ways_by (counters rules an ss 1 s.at) (counters rules an ss 2 s.at)
+    ways_there = ways_is ∙ (ap (λ n. ways_place n (picked rules.all s) (edge_picked rules.ways s)) (sym first_is) ∙ sym at.ways)
+
+    -- only a branch or a loop has counters on its ways
+    pub only_branches : ForSome ways (λ w. is_branch (flow_of (get_or ss k d).insn) ≡ true)
+    only_branches w e = by (edge_picked rules.ways s) refl
+      where
+        by : (t : Bool) → edge_picked rules.ways s ≡ t → is_branch (flow_of s.insn) ≡ true
+        by true h = picked_branches rules.ways s h
+        by false h = absurd (none-some w (sym (ways_is ∙ ap (ways_place (an.private + 64 + 8 * slice_index ranks k) (picked rules.all s)) h) ∙ e))
 
     -- the counter has no more bytes than the site's code
-    pub counter_low : length (counter_code an place) ≤ slice_index (code_lens rule ss) k
-    counter_low = omega (arith, ap (λ (o : Option ℕ). length (counter_code an o)) place_there, counter_sized rule an 0 ss k s asc there, lens_at rule ss k s there)
+    pub counter_low : length (counter_code an all) ≤ slice_index (code_lens rules ss) k
+    counter_low = omega (arith, ap (λ (o : Option ℕ). length (counter_code an o)) all_there, counter_sized rules an (counters rules an ss) s at, lens_at rules ss k s there)
 
-    site_piece : (move : ℕ → ℕ) (code : ℕ → Option ℕ) (here : ℕ) (p : List ℕ) → p ≡ counted_piece an move code place here s → p ≡ part_bytes an move code (counters rule an ss) ss here (Piece k)
-    site_piece move code here p is =
-        is
-        ∙ (ap (λ (o : Option ℕ). counted_piece an move code o here s) place_there
-        ∙ sym (ap (site_code an move code (counters rule an ss) here) there))
-
-    pub site_bytes : (move : ℕ → ℕ) (code : ℕ → Option ℕ) (here : ℕ) → counted_piece an move code place here s ≡ part_bytes an move code (counters rule an ss) ss here (Piece k)
-    site_bytes move code here = site_piece move code here (counted_piece an move code place here s) refl
+    pub site_bytes : (move : ℕ → ℕ) (code : ℕ → Option ℕ) (here : ℕ) → counted_piece an move code all ways here s ≡ part_bytes an move code (counters rules an ss) ss here (Piece k)
+    site_bytes move code here =
+        (λ i. counted_piece an move code (all_there i) (ways_there i) here s)
+        ∙ sym (ap (site_code an move code (counters rules an ss) here) there)
 
 -- parts have their lengths where sites ascend and are whole
-pub sized_parts : (rule : Rule) (an : Anchors) (move : ℕ → ℕ) (code : ℕ → Option ℕ) (ss : List Site) → AreWhole code ss → Ascend 0 (map site_address ss) → (here : ℕ) (p : Part) → length (part_bytes an move code (counters rule an ss) ss here p) ≡ part_len (code_lens rule ss) p
-sized_parts rule an move code ss whole asc here p = part_sized rule an move code (counters rule an ss) ss whole (λ k s e. counter_sized rule an 0 ss k s asc e) here p
+pub sized_parts : (rules : Rules) (an : Anchors) (move : ℕ → ℕ) (code : ℕ → Option ℕ) (ss : List Site) → AreWhole code ss → Ascend 0 (map site_address ss) → (here : ℕ) (p : Part) → length (part_bytes an move code (counters rules an ss) ss here p) ≡ part_len (code_lens rules ss) p
+sized_parts rules an move code ss whole asc here p = part_sized rules an move code (counters rules an ss) ss whole (λ k s e. counted_at rules an 0 ss k s asc e) here p

@@ -3,12 +3,13 @@ use Rattle.std.proofs.Common.{◌≡◌, ℕ, zero, suc, ◌+◌, ◌<◌, ◌�
 use Rattle.std.specs.Prelude.{slice_index}
 use Rattle.std.proofs.lemmas.Bool.{eq-eqb, ne_eqb, cases_eq, cases_lt}
 use Rattle.std.proofs.lemmas.List.{append-nil, drop_more, drop_all, get_or-set_same, get_or-set_other, take_more, take_all, map_more, get_or_default, get_or_append_left, get_or-append-add, get_or-map, length-map}
-use Rattle.counter_hooks.specs.declared.rules.Rule.{Rule}
+use Rattle.image_layout.specs.Rules.{Rules}
 use Rattle.counter_hooks.specs.Rules.{picked}
+use Rattle.edge_hooks.specs.Rules.{edge_picked}
 use Rattle.superset.specs.declared.site.Site.{Site}
 use Rattle.sequence_join.specs.Chains.{Chain}
 use Rattle.image_layout.specs.Parts.{Part, Piece, join_parts, link_parts, chain_parts, parts, parts_len, placed, place_or}
-use Rattle.image_layout.specs.Pieces.{listed, site_len, code_lens}
+use Rattle.image_layout.specs.Pieces.{kinds_at, listed, site_len, code_lens}
 use Rattle.image_layout.specs.Layout.{pairs_by}
 use Rattle.image_layout.specs.Sites.{LinksBelow, AreBelow}
 use Rattle.image_layout.specs.laws.SiteFacts.{site_address}
@@ -121,9 +122,9 @@ place_chains_end lens es cs i here k le = ap (λ (l : List Chain). place_or (sli
 
 -- ---- what is known of sites, one by one
 
-pub lens_step : (rule : Rule) (ss : List Site) (k : ℕ) (d : Site) (n : ℕ) (now new : List ℕ) → k < length ss → n ≡ site_len rule (get_or ss k d) → now ≡ code_lens rule (take k ss) → new ≡ now ++ n ∷ [] → new ≡ code_lens rule (take (k + 1) ss)
-lens_step rule ss k d n now new lt is h p =
-    p ∙ (ap (λ (t : List ℕ). t ++ n ∷ []) h ∙ (ap (λ m. code_lens rule (take k ss) ++ m ∷ []) is ∙ sym (map_more (site_len rule) ss k d lt)))
+pub lens_step : (rules : Rules) (ss : List Site) (k : ℕ) (d : Site) (n : ℕ) (now new : List ℕ) → k < length ss → n ≡ site_len rules (get_or ss k d) → now ≡ code_lens rules (take k ss) → new ≡ now ++ n ∷ [] → new ≡ code_lens rules (take (k + 1) ss)
+lens_step rules ss k d n now new lt is h p =
+    p ∙ (ap (λ (t : List ℕ). t ++ n ∷ []) h ∙ (ap (λ m. code_lens rules (take k ss) ++ m ∷ []) is ∙ sym (map_more (site_len rules) ss k d lt)))
 
 pub ranks_step : (f : ℕ → ℕ) (now new : List ℕ) (i n : ℕ) → length now ≡ i → n ≡ f i → ((k : ℕ) → k < i → slice_index now k ≡ f k) → new ≡ now ++ n ∷ [] → (k : ℕ) → k < i + 1 → slice_index new k ≡ f k
 ranks_step f now new i n len is h p k lt =
@@ -135,11 +136,11 @@ ranks_step f now new i n len is h p k lt =
           ap (λ (xs : List ℕ). slice_index xs k) p ∙ (ap (slice_index (now ++ n ∷ [])) place ∙ (get_or-append-add now (n ∷ []) 0 0 ∙ (is ∙ ap f (sym last))))
     ]
 
-pub counted_step : (rule : Rule) (ss : List Site) (k : ℕ) (d : Site) (t : Bool) (now new : List (ℕ × ℕ)) → k < length ss → t ≡ picked rule (get_or ss k d) → now ≡ listed rule (take k ss) → new ≡ now ++ cond t (((get_or ss k d).at, 0) ∷ []) [] → new ≡ listed rule (take (k + 1) ss)
-counted_step rule ss k d t now new lt is h p =
-    p ∙ (ap (λ (l : List (ℕ × ℕ)). l ++ cond t (((get_or ss k d).at, 0) ∷ []) []) h
-    ∙ (ap (λ (u : Bool). listed rule (take k ss) ++ cond u (((get_or ss k d).at, 0) ∷ []) []) is
-    ∙ sym (listed_more rule ss k d lt)))
+pub counted_step : (rules : Rules) (ss : List Site) (k : ℕ) (d : Site) (all ways : Bool) (now new : List (ℕ × ℕ)) → k < length ss → all ≡ picked rules.all (get_or ss k d) → ways ≡ edge_picked rules.ways (get_or ss k d) → now ≡ listed rules (take k ss) → new ≡ now ++ kinds_at (get_or ss k d).at all ways → new ≡ listed rules (take (k + 1) ss)
+counted_step rules ss k d all ways now new lt all_is ways_is h p =
+    p ∙ (ap (λ (l : List (ℕ × ℕ)). l ++ kinds_at (get_or ss k d).at all ways) h
+    ∙ ((λ i. listed rules (take k ss) ++ kinds_at (get_or ss k d).at (all_is i) (ways_is i))
+    ∙ sym (listed_more rules ss k d lt)))
 
 -- a list that is written over whole
 pub whole_slice : (old new : List ℕ) (n : ℕ) → n ≡ length old → length new ≡ length old → take n (new ++ drop (length new) old) ≡ new

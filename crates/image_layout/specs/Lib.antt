@@ -3,6 +3,7 @@ pub mod Room
 pub mod Fit
 pub mod Sites
 pub mod Parts
+pub mod Rules
 pub mod Pieces
 pub mod Measuring
 pub mod Layout

@@ -11,3 +11,8 @@ pub mod Counting
 pub mod LayFacts
 pub mod InPlacing
 pub mod Ruled
+-- what the file of any plan that fits loads as, lowest first
+pub mod Fine
+pub mod NewHeaders
+pub mod NewCells
+pub mod Fitting

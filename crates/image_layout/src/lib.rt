@@ -10,7 +10,7 @@ pub mod layout;
 mod places;
 pub mod room;
 
-pub use layout::{LayFault, lay, moved};
+pub use layout::{LayFault, lay, lay_edges, moved};
 pub use room::first_fit;
 
 #[cfg(test)]

@@ -1,16 +1,18 @@
 //! Where the code of sites stands, by its lengths alone.
 
-ghost use Rattle.std.specs.Prelude.{◌≡◌, ℕ, ◌+◌, ◌<◌, ◌≤◌, ◌^◌, length, map, slice_index, IfOk};
+ghost use Rattle.std.specs.Prelude.{◌≡◌, ℕ, ◌+◌, ◌<◌, ◌≤◌, ◌^◌, length, map, slice_index, IfOk, OnOk, false, ◌++◌};
 ghost use Rattle.std.specs.List.{All};
 ghost use Rattle.image_layout.specs.Layout.{pairs_by};
 ghost use Rattle.image_layout.specs.Parts.{chain_parts, parts, parts_len, placed, place_or, entry};
 ghost use Rattle.image_layout.specs.Measuring.{IsMeasured};
-ghost use Rattle.image_layout.specs.Pieces.{piece_len as piece_len_of, counter_len as counter_len_of};
+ghost use Rattle.image_layout.specs.Pieces.{kinds_at, counter_len as counter_len_of, piece_len as piece_len_of, way_len as way_len_of};
+ghost use Rattle.image_layout.specs.Rules.{both};
 ghost use Rattle.image_layout.specs.Sites.{AreShort, IsShort, AreBelow};
 
 use branch_lengthen::near_len;
 use call_rewrite::far_len;
 use counter_hooks::{Hooks, Question, counter_len};
+use edge_hooks::{EdgeHooks, edge_len};
 use elf32_write::Pairs;
 use mv_base::{Addrs, Bytes, NoMemory};
 use sequence_join::{Chain, ChainList};
@@ -21,8 +23,8 @@ use x86_insn::Flow;
 /// How many bytes a join has.
 const JOIN_LEN: u32 = 5;
 
-/// What is known of sites before they have places: their addresses, how many bytes the code of each has, how many counted
-/// sites stand before each, and the counters of these, which are of kind 0.
+/// What is known of sites before they have places: their addresses, how many bytes the code of each has, how many counters
+/// stand before each one's own, and the counters.
 #[derive(Drop)]
 pub struct Measured {
     pub addresses: Addrs,
@@ -31,19 +33,20 @@ pub struct Measured {
     pub counted: Pairs,
 }
 
-/// What is known of sites before they have places. It asks the hooks once a site.
+/// What is known of sites before they have places. It asks both hooks once a site.
 ///
 /// # Errors
 ///
 /// `NoMemory`.
-pub fn measure<F: Question>(
+pub fn measure<F: Question, G: Question>(
     alloc: Global,
     sites: &[Site],
     hooks: &Hooks<F>,
+    edges: &EdgeHooks<G>,
 ) -> Result<Measured, NoMemory>
     requires short { AreShort sites.now }
-    requires few { length sites.now < 2 ^ 32 }
-    ensures { IfOk result (IsMeasured hooks.now sites.now) }
+    requires few { length sites.now ≤ 16777216 }
+    ensures { IfOk result (IsMeasured (both hooks.now edges.now) sites.now) }
 {
     let mut addresses = Vec::with_capacity(alloc, sites.len())?;
     let mut lens = Vec::with_capacity(alloc, sites.len())?;
@@ -51,12 +54,11 @@ pub fn measure<F: Question>(
     let mut counted = Vec::new(alloc);
     for site in sites {
         let is_counted = hooks.asks(site);
+        let has_ways = edges.asks(site);
         addresses.push(site.at)?;
-        lens.push(site_len(site, is_counted))?;
+        lens.push(site_len(site, is_counted, has_ways))?;
         ranks.push(counted.len() as u32)?;
-        if is_counted {
-            counted.push((site.at, 0))?;
-        }
+        push_counters(&mut counted, site.at, is_counted, has_ways)?;
     }
     Ok(Measured {
         addresses: Addrs::new(addresses),
@@ -66,13 +68,57 @@ pub fn measure<F: Question>(
     })
 }
 
-/// How many bytes the code of a site has, where it is counted or not.
-fn site_len(site: &Site, is_counted: bool) -> u8
-    requires { IsShort site.now }
-    ensures { result ≡ counter_len_of is_counted + piece_len_of site.now }
+/// Appends the counters of a site: that of all executions, if it is counted, and those of its ways, if it has these.
+fn push_counters(
+    counted: &mut Vec<(u32, u8)>,
+    address: u32,
+    is_counted: bool,
+    has_ways: bool,
+) -> Result<(), NoMemory>
+    ensures { OnOk result (counted.new.items ≡ counted.old.items
+        ++ kinds_at address is_counted has_ways) }
 {
+    if !is_counted {
+        return push_ways(counted, address, has_ways);
+    }
+    counted.push((address, 0))?;
+    push_ways(counted, address, has_ways)
+}
+
+/// Appends the counters of a site's ways, if it has these: taken, and then passed.
+fn push_ways(counted: &mut Vec<(u32, u8)>, address: u32, has_ways: bool) -> Result<(), NoMemory>
+    ensures { OnOk result (counted.new.items ≡ counted.old.items
+        ++ kinds_at address false has_ways) }
+{
+    if !has_ways {
+        return Ok(());
+    }
+    counted.push((address, 1))?;
+    counted.push((address, 2))?;
+    Ok(())
+}
+
+/// How many bytes the code of a site has, where it is counted or not, and its ways are or not.
+fn site_len(site: &Site, is_counted: bool, has_ways: bool) -> u8
+    requires { IsShort site.now }
+    ensures { result ≡ counter_len_of is_counted + way_len_of has_ways site.now }
+{
+    let piece = way_len(site, has_ways);
     if is_counted {
-        counter_len() as u8 + piece_len(site)
+        counter_len() as u8 + piece
+    } else {
+        piece
+    }
+}
+
+/// How many bytes the piece of a site has, with counters on its ways or without.
+fn way_len(site: &Site, has_ways: bool) -> u8
+    requires { IsShort site.now }
+    ensures is { result ≡ way_len_of has_ways site.now }
+    ensures few { result ≤ 105 }
+{
+    if has_ways {
+        edge_len(site) as u8
     } else {
         piece_len(site)
     }

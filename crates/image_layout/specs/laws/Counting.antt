@@ -62,12 +62,12 @@ links_most lens [] None m most = omega arith
 links_most lens [] (Some to) m most = omega arith
 links_most lens (k ∷ ks) next m most = omega (arith, most k, links_most lens ks next m most)
 
--- a site has at most 79 bytes, its counter and its piece; a chain has a link, and so at most 5 bytes for each besides
-linked_most : (ss : List Site) (lens ks : List ℕ) (next : Option ℕ) → AreLinks ss ks next → ((k : ℕ) → slice_index lens k ≤ 79) → parts_len lens (link_parts ks next) ≤ 84 * length ks
+-- a site has at most 151 bytes, its counters and its piece; a chain has a link, and so at most 5 bytes for each besides
+linked_most : (ss : List Site) (lens ks : List ℕ) (next : Option ℕ) → AreLinks ss ks next → ((k : ℕ) → slice_index lens k ≤ 151) → parts_len lens (link_parts ks next) ≤ 156 * length ks
 linked_most ss lens [] next linked most = absurd linked
-linked_most ss lens (k ∷ ks) next linked most = omega (arith, links_most lens (k ∷ ks) next 79 most)
+linked_most ss lens (k ∷ ks) next linked most = omega (arith, links_most lens (k ∷ ks) next 151 most)
 
-pub parts_most : (ss : List Site) (lens : List ℕ) (cs : List Chain) → AllByRecursion (IsLinked ss) cs → ((k : ℕ) → slice_index lens k ≤ 79) → parts_len lens (parts cs) ≤ 84 * length (order cs)
+pub parts_most : (ss : List Site) (lens : List ℕ) (cs : List Chain) → AllByRecursion (IsLinked ss) cs → ((k : ℕ) → slice_index lens k ≤ 151) → parts_len lens (parts cs) ≤ 156 * length (order cs)
 unfolding parts_len
 parts_most ss lens [] linked most = omega arith
 parts_most ss lens (c ∷ cs) linked most =

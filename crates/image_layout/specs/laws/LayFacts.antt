@@ -10,7 +10,7 @@ use Rattle.elf32_write.specs.Format.{up, private_len}
 use Rattle.elf32_write.specs.Written.{up-le}
 use Rattle.map_table.specs.Pairs.{entry_in, Ascend, IsPair}
 use Rattle.map_table.specs.Paged.{table_size, AreRuns, IsMade}
-use Rattle.counter_hooks.specs.declared.rules.Rule.{Rule}
+use Rattle.image_layout.specs.Rules.{Rules}
 use Rattle.superset.specs.declared.site.Site.{Site}
 use Rattle.superset.specs.Sites.{sites_in}
 use Rattle.sequence_join.specs.Chains.{Chain, order, EachOnce, IsLinked}
@@ -18,14 +18,14 @@ use Rattle.simulation_laws.specs.declared.anchors.Anchors.{Anchors}
 use Rattle.image_layout.specs.Fit.{first_fit}
 use Rattle.image_layout.specs.Layout.{stub_len, code_len, table_len, size, pairs, pairs_from, table_from}
 use Rattle.image_layout.specs.Parts.{parts, parts_len, entry}
-use Rattle.image_layout.specs.Pieces.{counted, counters, code_lens}
+use Rattle.image_layout.specs.Pieces.{listed, counters, code_lens}
 use Rattle.image_layout.specs.Sites.{AreBelow}
 use Rattle.image_layout.specs.laws.Sizes.{lens_most, AreCounted}
 use Rattle.image_layout.specs.laws.Placing.{has_place}
 use Rattle.image_layout.specs.laws.Following.{single, there, below}
 use Rattle.image_layout.specs.laws.SiteFacts.{is_site_at, site_is, site_address, sites_ascend, sites_count, are_short}
 use Rattle.image_layout.specs.laws.Pairing.{firsts_pairs, all_pairs, entry_at_most}
-use Rattle.image_layout.specs.laws.Counters.{counted_most, counter_sized}
+use Rattle.image_layout.specs.laws.Counters.{listed_most, counted_at}
 use Rattle.image_layout.specs.laws.Counting.{length-once, parts_most}
 use Rattle.image_layout.specs.laws.Blocks.{room_at}
 
@@ -55,21 +55,24 @@ module _ (rs : List Run) (ss : List Site) (cs : List Chain) (is : AreLaid rs ss 
   pub chains_below : AreBelow (length ss) cs
   chains_below = below (length ss) cs is.once
 
--- and by a rule
-module _ (rule : Rule) (rs : List Run) (ss : List Site) (cs : List Chain) (is : AreLaid rs ss cs) where
+-- and by rules
+module _ (rules : Rules) (rs : List Run) (ss : List Site) (cs : List Chain) (is : AreLaid rs ss cs) where
   abbrev lens : List ℕ
-  lens = code_lens rule ss
+  lens = code_lens rules ss
 
-  pub counted_few : length (counted rule ss) ≤ 16777216
-  counted_few = omega (arith, counted_most rule ss, count rs ss cs is)
+  pub listed_few : length (listed rules ss) ≤ 3 * 16777216
+  listed_few = omega (arith, listed_most rules ss, count rs ss cs is)
 
-  pub counters_are : (an : Anchors) → AreCounted rule an (counters rule an ss) ss
-  counters_are an k s e = counter_sized rule an 0 ss k s (ascend rs ss cs is) e
+  pub counters_are : (an : Anchors) → AreCounted rules (counters rules an ss) ss
+  counters_are an k s e = counted_at rules an 0 ss k s (ascend rs ss cs is) e
 
-  -- the chains have fewer than 2^31 bytes
-  pub chains_small : parts_len lens (parts cs) ≤ 84 * 16777216
-  chains_small =
-      omega (arith, parts_most ss lens cs is.linked (lens_most rule ss (are_short rs ss is.sites)), length-once (length ss) (order cs) is.once, count rs ss cs is)
+  -- the chains have at most 156 bytes for each site, fewer than 2^32
+  pub chains_by : parts_len lens (parts cs) ≤ 156 * length ss
+  chains_by =
+      omega (arith, parts_most ss lens cs is.linked (lens_most rules ss (are_short rs ss is.sites)), length-once (length ss) (order cs) is.once)
+
+  pub chains_small : parts_len lens (parts cs) ≤ 156 * 16777216
+  chains_small = omega (arith, chains_by, count rs ss cs is)
 
   -- a place in the chains
   pub record HasEntry (first k : ℕ) : Type 0 where
@@ -81,7 +84,7 @@ module _ (rule : Rule) (rs : List Run) (ss : List Site) (cs : List Chain) (is : 
       let w = has_place lens (parts cs) first k (single (length ss) cs is.once) (there (length ss) k cs is.once lt) in
       record { low = omega (arith, w.place 0); high = omega (arith, w.place 0, w.room) }
 
-  pub pairs_are : (first : ℕ) → 0 < first → first + parts_len lens (parts cs) < 2 ^ 32 → AllByRecursion (IsPair rs) (pairs_from rule ss cs first)
+  pub pairs_are : (first : ℕ) → 0 < first → first + parts_len lens (parts cs) < 2 ^ 32 → AllByRecursion (IsPair rs) (pairs_from rules ss cs first)
   pairs_are first some fits = all_pairs rs (entry lens first (parts cs)) 0 ss one
     where
       one : (k : ℕ) (s : Site) → slice_get ss k ≡ Some s → IsPair rs (s.at, entry lens first (parts cs) (0 + k))
@@ -93,7 +96,7 @@ module _ (rule : Rule) (rs : List Run) (ss : List Site) (cs : List Chain) (is : 
           (record { inside = subst (λ (o : Option ℕ). IsSome o) (sym q.starts.1) refl; some = omega (arith, h.low, some); fits = omega (arith, h.high, fits) })
 
   -- no entry is above the end of the code
-  pub entry_most : (base a : ℕ) → entry_in (pairs rule rs ss cs base) a ≤ base + code_len rule rs ss cs
+  pub entry_most : (base a : ℕ) → entry_in (pairs rules rs ss cs base) a ≤ base + code_len rules rs ss cs
   entry_most base a =
       let first = base + stub_len rs in
       let most : (k : ℕ) → k < length ss → entry lens first (parts cs) (0 + k) ≤ first + parts_len lens (parts cs) =
@@ -106,24 +109,24 @@ module _ (rule : Rule) (rs : List Run) (ss : List Site) (cs : List Chain) (is : 
   -- the block's parts end below 2^32
   pub record HasBase (base : ℕ) : Type 0 where
     pub some : 0 < base
-    pub low : base + up (code_len rule rs ss cs) + up (table_len rule rs ss) + up (private_len (length (counted rule ss))) ≤ 0xB0000000
+    pub low : base + up (code_len rules rs ss cs) + up (table_len rules rs ss) + up (private_len (length (listed rules ss))) ≤ 0xB0000000
 
-  pub size_is : size rule rs ss cs ≡ up (code_len rule rs ss cs) + up (table_len rule rs ss) + up (private_len (length (counted rule ss)))
+  pub size_is : size rules rs ss cs ≡ up (code_len rules rs ss cs) + up (table_len rules rs ss) + up (private_len (length (listed rules ss)))
   unfolding size
   size_is = refl
 
-  pub has_base : (segs : List Segment) (base : ℕ) → first_fit segs (size rule rs ss cs) ≡ Some base → HasBase base
+  pub has_base : (segs : List Segment) (base : ℕ) → first_fit segs (size rules rs ss cs) ≡ Some base → HasBase base
   has_base segs base e =
-      let room = room_at segs (size rule rs ss cs) base e in
+      let room = room_at segs (size rules rs ss cs) base e in
       record { some = omega (arith, room.at, room.from); low = omega (arith, room.low, size_is) }
 
-  pub made : (base : ℕ) → HasBase base → IsMade (record { runs = rs; pairs = pairs rule rs ss cs base; lo = table_from rule rs ss cs base })
+  pub made : (base : ℕ) → HasBase base → IsMade (record { runs = rs; pairs = pairs rules rs ss cs base; lo = table_from rules rs ss cs base })
   made base room =
       let first = base + stub_len rs in
       let firsts_are = firsts_pairs (entry lens first (parts cs)) 0 ss in
       record {
         runs = is.runs;
         ascend = subst (λ (l : List ℕ). Ascend 0 l) (sym firsts_are) (ascend rs ss cs is);
-        pairs = pairs_are first (omega (arith, room.some)) (omega (arith, room.low, up-le (code_len rule rs ss cs)));
-        room = omega (arith, room.low, up-le (table_len rule rs ss), ap (table_size rs) firsts_are);
+        pairs = pairs_are first (omega (arith, room.some)) (omega (arith, room.low, up-le (code_len rules rs ss cs)));
+        room = omega (arith, room.low, up-le (table_len rules rs ss), ap (table_size rs) firsts_are);
       }

@@ -1,6 +1,7 @@
 use Rattle.std.proofs.lemmas.Option.{get_or_from_slice_get}
 use Rattle.std.proofs.Common.{ℕ, refl, ◌∙◌, arith, sym}
 use Rattle.elf32_read.specs.Runs.{code_of}
+use Rattle.image_layout.specs.Rules.{both}
 use Rattle.image_layout.specs.Layout.{moved}
 use Rattle.image_layout.specs.Parts.{chain_parts}
 use Rattle.image_layout.specs.Pieces.{counters, code_lens, part_bytes, chain_code}
@@ -14,19 +15,19 @@ put_chain-requires-clause-below g c =
 
 pub put_chain-requires-clause-room : goal.put_chain-requires-clause-room
 put_chain-requires-clause-room g c =
-    omega (arith, chains_step (code_lens c.args.hooks.now c.args.sites.now) c.args.chains.now c.loop-number.number c.get-chain.result (omega (arith, c.loop-number-test.true, c.len-number-end.ensures)) (sym (get_or_from_slice_get c.args.chains.now _ _ _ (sym c.get-chain.ensures))))
+    omega (arith, chains_step (code_lens (both c.args.hooks.now c.args.edges.now) c.args.sites.now) c.args.chains.now c.loop-number.number c.get-chain.result (omega (arith, c.loop-number-test.true, c.len-number-end.ensures)) (sym (get_or_from_slice_get c.args.chains.now _ _ _ (sym c.get-chain.ensures))))
 
 pub loop-number-preserved : goal.loop-number-preserved
 loop-number-preserved g c =
-    let rule = c.args.hooks.now in
+    let rules = (both c.args.hooks.now c.args.edges.now) in
     let ss = c.args.sites.now in
-    let lens = code_lens rule ss in
+    let lens = code_lens rules ss in
     let cs = c.args.chains.now in
     let i = c.loop-number.number in
     let move : ℕ → ℕ = moved c.args.table.now.pairs in
     let code = code_of c.args.runs.now in
-    let bytes = part_bytes c.args.anchors move code (counters rule c.args.anchors ss) ss in
-    let sized = sized_parts rule c.args.anchors move code ss c.requires.whole c.requires.ascend in
+    let bytes = part_bytes c.args.anchors move code (counters rules c.args.anchors ss) ss in
+    let sized = sized_parts rules c.args.anchors move code ss c.requires.whole c.requires.ascend in
     let now = c.loop-number.code.items in
     let new = c.put_chain.new.code.items in
     record {
@@ -39,5 +40,5 @@ pub returns : goal.returns
 unfolding chain_code
 returns g c =
     let ss = c.args.sites.now in
-    let bytes = part_bytes c.args.anchors (moved c.args.table.now.pairs) (code_of c.args.runs.now) (counters c.args.hooks.now c.args.anchors ss) ss in
-    put_all (code_lens c.args.hooks.now ss) bytes c.args.anchors.stub c.loop-number.code.items c.loop-number.code.items _ (chains_gone c.args.chains.now c.loop-number.number (omega (arith, c.loop-number-test.false, c.len-number-end.ensures))) refl ∙ c.loop-number.invariant.whole
+    let bytes = part_bytes c.args.anchors (moved c.args.table.now.pairs) (code_of c.args.runs.now) (counters (both c.args.hooks.now c.args.edges.now) c.args.anchors ss) ss in
+    put_all (code_lens (both c.args.hooks.now c.args.edges.now) ss) bytes c.args.anchors.stub c.loop-number.code.items c.loop-number.code.items _ (chains_gone c.args.chains.now c.loop-number.number (omega (arith, c.loop-number-test.false, c.len-number-end.ensures))) refl ∙ c.loop-number.invariant.whole

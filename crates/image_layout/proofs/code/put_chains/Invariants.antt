@@ -1,5 +1,6 @@
 use Rattle.std.proofs.Common.{◌≡◌, ◌+◌, ◌++◌, length, drop}
 use Rattle.elf32_read.specs.Runs.{code_of}
+use Rattle.image_layout.specs.Rules.{both}
 use Rattle.image_layout.specs.Layout.{moved}
 use Rattle.image_layout.specs.Parts.{parts, parts_len, placed}
 use Rattle.image_layout.specs.Pieces.{counters, code_lens, part_bytes, bytes_of}
@@ -8,8 +9,8 @@ use Rattle.image_layout.proofs.code.put_chains.Given as goal
 
 abbrev pub invariant-loop-number : goal.invariant-loop-number
 invariant-loop-number g l = record {
-  whole : l.code.items ++ bytes_of (part_bytes l.anchors (moved l.table.pairs) (code_of l.runs) (counters l.hooks l.anchors l.sites) l.sites) (placed (code_lens l.hooks l.sites) (l.anchors.stub + length l.code.items) (parts (drop l.number l.chains)))
-      ≡ l.fn.code.items ++ bytes_of (part_bytes l.anchors (moved l.table.pairs) (code_of l.runs) (counters l.hooks l.anchors l.sites) l.sites) (placed (code_lens l.hooks l.sites) (l.anchors.stub + length l.fn.code.items) (parts l.chains));
-  room : length l.code.items + parts_len (code_lens l.hooks l.sites) (parts (drop l.number l.chains)) ≡ length l.fn.code.items + parts_len (code_lens l.hooks l.sites) (parts l.chains);
+  whole : l.code.items ++ bytes_of (part_bytes l.anchors (moved l.table.pairs) (code_of l.runs) (counters (both l.hooks l.edges) l.anchors l.sites) l.sites) (placed (code_lens (both l.hooks l.edges) l.sites) (l.anchors.stub + length l.code.items) (parts (drop l.number l.chains)))
+      ≡ l.fn.code.items ++ bytes_of (part_bytes l.anchors (moved l.table.pairs) (code_of l.runs) (counters (both l.hooks l.edges) l.anchors l.sites) l.sites) (placed (code_lens (both l.hooks l.edges) l.sites) (l.anchors.stub + length l.fn.code.items) (parts l.chains));
+  room : length l.code.items + parts_len (code_lens (both l.hooks l.edges) l.sites) (parts (drop l.number l.chains)) ≡ length l.fn.code.items + parts_len (code_lens (both l.hooks l.edges) l.sites) (parts l.chains);
   below : AreBelow (length l.sites) (drop l.number l.chains);
 }
