@@ -18,15 +18,11 @@ use Rattle.map_table.specs.Paged.{AreRuns}
 use Rattle.sequence_join.specs.laws.Once.{each_once}
 use Rattle.sequence_join.specs.laws.Linked.{all_linked}
 use Rattle.image_layout.specs.Room.{ArePagesApart}
-use Rattle.image_layout.specs.laws.LayFacts.{AreLaid, ascend}
+use Rattle.image_layout.specs.laws.LayFacts.{AreLaid}
 use Rattle.mv_rewrite.specs.Sites.{code_in, sites, sites_in}
-use Rattle.mv_rewrite.specs.Layout.{chains, counted_at}
-use Rattle.counter_hooks.specs.Rules.{Ascend, picked}
-use Rattle.counter_hooks.specs.declared.rules.Rule.{Rule}
+use Rattle.mv_rewrite.specs.Layout.{chains}
 use Rattle.superset.specs.declared.site.Site.{Site}
-use Rattle.image_layout.specs.Pieces.{counted}
-use Rattle.image_layout.specs.laws.SiteFacts.{site_address, is_site_at, site_is}
-use Rattle.image_layout.specs.laws.Counters.{counted_ascends}
+use Rattle.image_layout.specs.laws.SiteFacts.{is_site_at, site_is}
 
 -- functions that agree are the same
 pub same_code : (c d : ℕ → Option ℕ) → ((a : ℕ) → c a ≡ d a) → c ≡ d
@@ -56,7 +52,7 @@ are_laid b whole admitted = record {
   linked = all_linked (sites b) (λ k. false) 0 (sites b) refl;
 }
 
--- ---- counted addresses
+-- ---- addresses of sites
 
 -- a byte of runs lies below 2^32
 run_low : (from : ℕ) (rs : List Run) (a n : ℕ) → AreApart from rs → code_of rs a ≡ Some n → a < 2 ^ 32
@@ -67,25 +63,11 @@ run_low from (r ∷ rs) a n apart e = go (λ h. run_low (r.lo + length r.bytes +
     go rest true w h = let q = within_parts r.lo (length r.bytes) a w in omega (arith, q.1, apart.2)
     go rest false w h = rest h
 
--- what holds of each site's address holds of those that are counted
-counted_all : (rule : Rule) (ss : List Site) → ((k : ℕ) (s : Site) → slice_get ss k ≡ Some s → s.at < 2 ^ 32) → (k : ℕ) → k < length (counted rule ss) → slice_index (counted rule ss) k < 2 ^ 32
-counted_all rule [] all k lt = absurd (omega (arith, lt))
-counted_all rule (s ∷ ss) all k lt = go (counted_all rule ss (λ j q e. all (suc j) q e)) (picked rule s) k lt
-  where
-    go : ((k : ℕ) → k < length (counted rule ss) → slice_index (counted rule ss) k < 2 ^ 32) → (t : Bool) (k : ℕ) → k < length (map site_address (cond t (s ∷ filter (picked rule) ss) (filter (picked rule) ss)))
-        → slice_index (map site_address (cond t (s ∷ filter (picked rule) ss) (filter (picked rule) ss))) k < 2 ^ 32
-    go rest true zero lt = all 0 s refl
-    go rest true (suc k) lt = rest k (omega (arith, lt))
-    go rest false k lt = rest k lt
-
--- they strictly ascend, and are addresses
-pub counted_ascend : (b : List ℕ) (rule : Rule) → AreLaid (runs_of b) (sites b) (chains b) → Ascend (counted_at b rule)
-counted_ascend b rule laid = counted_ascends rule (sites b) (ascend (runs_of b) (sites b) (chains b) laid)
-
-pub counted_low : (b : List ℕ) (rule : Rule) → AreLaid (runs_of b) (sites b) (chains b) → (k : ℕ) → k < length (counted_at b rule) → slice_index (counted_at b rule) k < 2 ^ 32
-counted_low b rule laid = counted_all rule (sites b) (λ k s e.
+-- so does each site
+pub site_low : (b : List ℕ) → AreLaid (runs_of b) (sites b) (chains b) → (k : ℕ) (s : Site) → slice_get (sites b) k ≡ Some s → s.at < 2 ^ 32
+site_low b laid k s e =
     let starts = (is_site_at (code_of (runs_of b)) s.at s (site_is (runs_of b) (sites b) laid.sites k s e)).starts in
-    run_low 0 (runs_of b) s.at starts.0 laid.runs.apart starts.1)
+    run_low 0 (runs_of b) s.at starts.0 laid.runs.apart starts.1
 
 -- the segments of headers whose pages ascend share no page
 pages_by : (free : ℕ) (h : Phdr) (hs : List Phdr) (t : Bool) → maps h ≡ t → (maps h ≡ true → free ≤ h.vaddr / 4096) → ArePagesApart (free_after free h) (filter_map segment_of hs) → ArePagesApart free (filter_map segment_of (h ∷ hs))

@@ -4,9 +4,6 @@ pub mod LayoutFacts
 -- what stands where in an output, and how it loads, lowest first
 pub mod Longer
 pub mod PlacedPlan
-pub mod Fine
-pub mod NewHeaders
-pub mod NewCells
 pub mod Planned
 pub mod Recorded
 pub mod Relocating
@@ -14,6 +11,7 @@ pub mod Relocating
 pub mod Outputs
 pub mod OutputFacts
 pub mod Assembled
--- the rule of an output that is there, and the laws
+-- the rules of an output that is there, and the laws
 pub mod Listed
 pub mod Kept
+pub mod Replanned

@@ -12,7 +12,15 @@ use Rattle.std.specs.List.Sorted.{IsPermutation, IsSorted}
 use Rattle.std.specs.Ordering.{nat_cmp}
 use Rattle.map_table.specs.Pairs.{Ascend}
 use Rattle.counter_hooks.specs.Rules as rules
-use Rattle.mv_rewrite.specs.Upgrading.{whole, insert_once, sorted_once}
+use Rattle.superset.specs.declared.site.Site.{Site}
+use Rattle.counter_hooks.specs.Rules.{picked}
+use Rattle.edge_hooks.specs.Rules.{edge_picked}
+use Rattle.image_layout.specs.Pieces.{kinds_at, kinds_of}
+use Rattle.image_layout.specs.Pieces as pieces
+use Rattle.image_layout.specs.Rules.{Rules}
+use Rattle.image_layout.specs.laws.SiteFacts.{site_address}
+use Rattle.image_layout.specs.laws.Ruled.{passing}
+use Rattle.mv_rewrite.specs.Upgrading.{of_kind, insert_once, sorted_once}
 
 -- whether a number is in a list
 abbrev has : ℕ → List ℕ → Bool
@@ -157,41 +165,68 @@ pub dedup_sorted : (xs ys : List ℕ) → IsPermutation xs ys → IsSorted nat_c
 dedup_sorted xs ys moved sorted =
     sorted_is xs (dedup (λ x y. x == y) ys) (dedup_ascends ys sorted) (λ a. dedup_has a ys ∙ sym (list_any-IsPermutation (λ x. x == a) xs ys moved))
 
--- ---- the addresses that pairs have with kind 0
+-- ---- the addresses that pairs have with a kind
 
--- one pair more
-whole_more : (f : ℕ → ℕ × ℕ) (n : ℕ) → whole (map f (range_with_len 0 (n + 1))) ≡ whole (map f (range_with_len 0 n)) ++ cond ((f n).1 == 0) ((f n).0 ∷ []) []
-whole_more f n =
-    ap (map first) (filter_of_map_range_with_len_more (λ (q : ℕ × ℕ). q.1 == 0) f 0 n n (omega arith))
-    ∙ (map-append first (filter (λ (q : ℕ × ℕ). q.1 == 0) (map f (range_with_len 0 n))) (cond ((f n).1 == 0) (f n ∷ []) [])
-    ∙ ap (λ (l : List ℕ). whole (map f (range_with_len 0 n)) ++ l) (one ((f n).1 == 0) (f n)))
-  where
-    first : ℕ × ℕ → ℕ
-    first q = q.0
+abbrev first : ℕ × ℕ → ℕ
+first q = q.0
 
-    one : (t : Bool) (q : ℕ × ℕ) → map first (cond t (q ∷ []) []) ≡ cond t (q.0 ∷ []) []
-    one true q = refl
-    one false q = refl
+module _ (kind : ℕ) where
+  -- one pair more
+  of_kind_more : (f : ℕ → ℕ × ℕ) (n : ℕ) → of_kind kind (map f (range_with_len 0 (n + 1))) ≡ of_kind kind (map f (range_with_len 0 n)) ++ cond ((f n).1 == kind) ((f n).0 ∷ []) []
+  of_kind_more f n =
+      ap (map first) (filter_of_map_range_with_len_more (λ (q : ℕ × ℕ). q.1 == kind) f 0 n n (omega arith))
+      ∙ (map-append first (filter (λ (q : ℕ × ℕ). q.1 == kind) (map f (range_with_len 0 n))) (cond ((f n).1 == kind) (f n ∷ []) [])
+      ∙ ap (λ (l : List ℕ). of_kind kind (map f (range_with_len 0 n)) ++ l) (one ((f n).1 == kind) (f n)))
+    where
+      one : (t : Bool) (q : ℕ × ℕ) → map first (cond t (q ∷ []) []) ≡ cond t (q.0 ∷ []) []
+      one true q = refl
+      one false q = refl
 
--- so a loop's step takes its address or passes it
-module _ (f : ℕ → ℕ × ℕ) (n : ℕ) (now new : List ℕ) (is : now ≡ whole (map f (range_with_len 0 n))) where
-  pub whole_taken : (x : ℕ) → (f n).1 ≡ 0 → x ≡ (f n).0 → new ≡ now ++ x ∷ [] → new ≡ whole (map f (range_with_len 0 (n + 1)))
-  whole_taken x zeroth e more =
-      more
-      ∙ (ap (λ (l : List ℕ). l ++ x ∷ []) is
-      ∙ (ap (λ (y : ℕ). whole (map f (range_with_len 0 n)) ++ y ∷ []) e
-      ∙ (ap (λ (t : Bool). whole (map f (range_with_len 0 n)) ++ cond t ((f n).0 ∷ []) []) (sym (eq-eqb (f n).1 0 zeroth))
-      ∙ sym (whole_more f n))))
+  -- so a loop's step takes its address or passes it
+  module _ (f : ℕ → ℕ × ℕ) (n : ℕ) (now new : List ℕ) (is : now ≡ of_kind kind (map f (range_with_len 0 n))) where
+    pub kind_taken : (x : ℕ) → (f n).1 ≡ kind → x ≡ (f n).0 → new ≡ now ++ x ∷ [] → new ≡ of_kind kind (map f (range_with_len 0 (n + 1)))
+    kind_taken x that e more =
+        more
+        ∙ (ap (λ (l : List ℕ). l ++ x ∷ []) is
+        ∙ (ap (λ (y : ℕ). of_kind kind (map f (range_with_len 0 n)) ++ y ∷ []) e
+        ∙ (ap (λ (t : Bool). of_kind kind (map f (range_with_len 0 n)) ++ cond t ((f n).0 ∷ []) []) (sym (eq-eqb (f n).1 kind that))
+        ∙ sym (of_kind_more f n))))
 
-  pub whole_passed : (f n).1 ≢ 0 → new ≡ now → new ≡ whole (map f (range_with_len 0 (n + 1)))
-  whole_passed other same =
-      same
-      ∙ (is
-      ∙ (sym (append-nil (whole (map f (range_with_len 0 n))))
-      ∙ (ap (λ (t : Bool). whole (map f (range_with_len 0 n)) ++ cond t ((f n).0 ∷ []) []) (sym (ne_eqb (f n).1 0 other))
-      ∙ sym (whole_more f n))))
+    pub kind_passed : (f n).1 ≢ kind → new ≡ now → new ≡ of_kind kind (map f (range_with_len 0 (n + 1)))
+    kind_passed other same =
+        same
+        ∙ (is
+        ∙ (sym (append-nil (of_kind kind (map f (range_with_len 0 n))))
+        ∙ (ap (λ (t : Bool). of_kind kind (map f (range_with_len 0 n)) ++ cond t ((f n).0 ∷ []) []) (sym (ne_eqb (f n).1 kind other))
+        ∙ sym (of_kind_more f n))))
 
--- pairs of kind 0 have all their addresses
-pub whole-all : (xs : List ℕ) → whole (map (λ a. (a, 0)) xs) ≡ xs
-whole-all [] = refl
-whole-all (x ∷ xs) = ap (λ (l : List ℕ). x ∷ l) (whole-all xs)
+-- the list of sites has with kind 0 the addresses that the rule picks, and with kind 1 those that the edge rule picks
+all_kinds : (a : ℕ) (all ways : Bool) (qs : List (ℕ × ℕ)) → of_kind 0 (kinds_at a all ways ++ qs) ≡ cond all (a ∷ []) [] ++ of_kind 0 qs
+all_kinds a true true qs = refl
+all_kinds a true false qs = refl
+all_kinds a false true qs = refl
+all_kinds a false false qs = refl
+
+way_kinds : (a : ℕ) (all ways : Bool) (qs : List (ℕ × ℕ)) → of_kind 1 (kinds_at a all ways ++ qs) ≡ cond ways (a ∷ []) [] ++ of_kind 1 qs
+way_kinds a true true qs = refl
+way_kinds a true false qs = refl
+way_kinds a false true qs = refl
+way_kinds a false false qs = refl
+
+passing_more : (t : Bool) (s : Site) (ss : List Site) → cond t (s.at ∷ []) [] ++ map site_address ss ≡ map site_address (cond t (s ∷ ss) ss)
+passing_more true s ss = refl
+passing_more false s ss = refl
+
+pub all_listed : (rules : Rules) (ss : List Site) → of_kind 0 (pieces.listed rules ss) ≡ passing (picked rules.all) ss
+all_listed rules [] = refl
+all_listed rules (s ∷ ss) =
+    all_kinds s.at (picked rules.all s) (edge_picked rules.ways s) (pieces.listed rules ss)
+    ∙ (ap (λ (l : List ℕ). cond (picked rules.all s) (s.at ∷ []) [] ++ l) (all_listed rules ss)
+    ∙ passing_more (picked rules.all s) s (filter (picked rules.all) ss))
+
+pub ways_listed : (rules : Rules) (ss : List Site) → of_kind 1 (pieces.listed rules ss) ≡ passing (edge_picked rules.ways) ss
+ways_listed rules [] = refl
+ways_listed rules (s ∷ ss) =
+    way_kinds s.at (picked rules.all s) (edge_picked rules.ways s) (pieces.listed rules ss)
+    ∙ (ap (λ (l : List ℕ). cond (edge_picked rules.ways s) (s.at ∷ []) [] ++ l) (ways_listed rules ss)
+    ∙ passing_more (edge_picked rules.ways s) s (filter (edge_picked rules.ways) ss))

@@ -4,7 +4,7 @@ use Rattle.mv_base.specs.Bytes.{AreBytes}
 use Rattle.elf32_read.specs.Faults.{load_refusal, limit_fault}
 use Rattle.elf32_read.specs.RunCount.{header_count-admitted}
 use Rattle.elf32_read.specs.Segments.{code_of-runs_of}
-use Rattle.counter_hooks.specs.declared.rules.Rule.{Rule}
+use Rattle.image_layout.specs.Rules.{Rules}
 use Rattle.mv_rewrite.specs.Layout.{base_of}
 use Rattle.mv_rewrite.specs.Output.{output_at}
 use Rattle.simulation_laws.specs.Stopping.{Simulates}
@@ -14,12 +14,12 @@ use Rattle.mv_rewrite.proofs.Recorded.{frame_is}
 use Rattle.mv_rewrite.proofs.Relocating.{relocated}
 use Rattle.simulation_laws.specs.laws.Simulating.{relocated_simulates}
 
-pub simulated : (b : List ℕ) (rule : Rule) (base : ℕ) → IsInput b rule base → AreBytes (output_at b rule base) → Simulates b (output_at b rule base)
-simulated b rule base is there = relocated_simulates b (output_at b rule base) (frame_is b rule base) (relocated b rule base is there)
+pub simulated : (b : List ℕ) (rules : Rules) (base : ℕ) → IsInput b rules base → AreBytes (output_at b rules base) → Simulates b (output_at b rules base)
+simulated b rules base is there = relocated_simulates b (output_at b rules base) (frame_is b rules base) (relocated b rules base is there)
 
 -- a file with no fault, within the limits, is an input for the block where it lies
-pub image_input : (b : List ℕ) (rule : Rule) (base : ℕ) → load_refusal b ≡ None → limit_fault b ≡ None → AreBytes b → length b ≤ 268435456 → base_of b rule ≡ Some base → IsInput b rule base
-image_input b rule base whole admitted bytes small at = record {
+pub image_input : (b : List ℕ) (rules : Rules) (base : ℕ) → load_refusal b ≡ None → limit_fault b ≡ None → AreBytes b → length b ≤ 268435456 → base_of b rules ≡ Some base → IsInput b rules base
+image_input b rules base whole admitted bytes small at = record {
   bytes = bytes;
   small = small;
   loads = whole;

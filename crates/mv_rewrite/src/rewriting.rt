@@ -4,20 +4,25 @@ ghost use Rattle.std.specs.Prelude.{◌≡◌, ◌≤◌, length, None, IfOk};
 ghost use Rattle.mv_base.specs.Bytes.{AreBytes};
 ghost use Rattle.elf32_read.specs.Faults.{limit_fault, load_refusal};
 ghost use Rattle.elf32_read.specs.Reading.{IsImage};
+ghost use Rattle.counter_hooks.specs.Rules.{Tells};
+ghost use Rattle.edge_hooks.specs.declared.rules.EdgeRule.TheVariants as edge_rule;
+ghost use Rattle.edge_hooks.specs.Rules.{edge_picked};
 ghost use Rattle.elf32_write.specs.Frame.{Frame};
+ghost use Rattle.image_layout.specs.Rules.{alone, both};
 ghost use Rattle.mv_rewrite.specs.Layout.{size, IsPlanned};
 ghost use Rattle.mv_rewrite.specs.OutputFile.{IsWrittenFor};
 ghost use Rattle.mv_rewrite.specs.Rewriting.{IsRewritten};
 ghost use Rattle.simulation_laws.specs.Stopping.{Simulates};
 
 use counter_hooks::{Hooks, Question};
+use edge_hooks::{EdgeHooks, EdgeRule};
 use elf32_read::{Image, ImageFault, ReadImage, admit, read_image, runs};
 use elf32_write::{Plan, added_len, write_image};
-use image_layout::{LayFault, lay};
+use image_layout::{LayFault, lay_edges};
 use mv_base::{Bytes, NoMemory, Range};
 use sequence_join::chains;
 use std::alloc::Global;
-use superset::sites;
+use superset::{Site, sites};
 use thiserror::Error;
 
 /// How many bytes a file that is read may have: 256 MiB.
@@ -89,52 +94,96 @@ pub fn rewrite<F: Question>(
     hooks: &Hooks<F>,
 ) -> Result<Rewritten, RewriteFault>
     requires { length bytes.now ≤ FILE_LIMIT }
-    ensures rewritten { IsRewritten bytes.now hooks.now result }
+    ensures rewritten { IsRewritten bytes.now (alone hooks.now) result }
     ensures simulates { IfOk result (λ r. Simulates bytes.now r.bytes) }
-    ensures written { IfOk result (λ r. (f : Frame) × IsWrittenFor bytes.now hooks.now r.bytes f) }
+    ensures written { IfOk result (λ r.
+        (f : Frame) × IsWrittenFor bytes.now (alone hooks.now) r.bytes f) }
+{
+    rewrite_alone(alloc, bytes, hooks, |_: &Site| false)
+}
+
+/// The same, with a question that is answered by no at every site.
+fn rewrite_alone<F: Question, G: Question + Drop>(
+    alloc: Global,
+    bytes: &[u8],
+    hooks: &Hooks<F>,
+    ask: G,
+) -> Result<Rewritten, RewriteFault>
+    requires limit { length bytes.now ≤ FILE_LIMIT }
+    requires tells { Tells (G.answers ask) (edge_picked edge_rule.None) }
+    ensures rewritten { IsRewritten bytes.now (alone hooks.now) result }
+    ensures simulates { IfOk result (λ r. Simulates bytes.now r.bytes) }
+    ensures written { IfOk result (λ r.
+        (f : Frame) × IsWrittenFor bytes.now (alone hooks.now) r.bytes f) }
+{
+    let edges = EdgeHooks::new(EdgeRule::None, ask);
+    rewrite_edges(alloc, bytes, hooks, &edges)
+}
+
+/// The output as `rewrite` has it, with two counters for each branch and loop that the edge hooks' rule picks: how often it
+/// was taken, and how often it was passed, each modulo 2^64.
+///
+/// Both hooks are asked twice a site.
+///
+/// # Errors
+///
+/// Those of `rewrite`, for the block that these counters and their longer code give.
+pub fn rewrite_edges<F: Question, G: Question>(
+    alloc: Global,
+    bytes: &[u8],
+    hooks: &Hooks<F>,
+    edges: &EdgeHooks<G>,
+) -> Result<Rewritten, RewriteFault>
+    requires { length bytes.now ≤ FILE_LIMIT }
+    ensures rewritten { IsRewritten bytes.now (both hooks.now edges.now) result }
+    ensures simulates { IfOk result (λ r. Simulates bytes.now r.bytes) }
+    ensures written { IfOk result (λ r.
+        (f : Frame) × IsWrittenFor bytes.now (both hooks.now edges.now) r.bytes f) }
 {
     match read_image(alloc, bytes) {
-        Ok(image) => rewrite_image(alloc, &image, bytes, hooks),
+        Ok(image) => rewrite_image(alloc, &image, bytes, hooks, edges),
         Err(ReadImage::Bad(fault)) => Err(RewriteFault::Image(fault)),
         Err(ReadImage::NoMemory) => Err(RewriteFault::NoMemory),
     }
 }
 
 /// The output of a file whose image this is.
-fn rewrite_image<F: Question>(
+fn rewrite_image<F: Question, G: Question>(
     alloc: Global,
     image: &Image,
     bytes: &[u8],
     hooks: &Hooks<F>,
+    edges: &EdgeHooks<G>,
 ) -> Result<Rewritten, RewriteFault>
     requires image { IsImage bytes.now image.now }
     requires limit { length bytes.now ≤ FILE_LIMIT }
-    ensures rewritten { IsRewritten bytes.now hooks.now result }
+    ensures rewritten { IsRewritten bytes.now (both hooks.now edges.now) result }
     ensures bytes { IfOk result (λ r. AreBytes r.bytes) }
 {
     match admit(image) {
-        Ok(()) => rewrite_admitted(alloc, image, bytes, hooks),
+        Ok(()) => rewrite_admitted(alloc, image, bytes, hooks, edges),
         Err(fault) => Err(RewriteFault::Image(fault)),
     }
 }
 
 /// The output of a file whose image this is, and within the limits.
-fn rewrite_admitted<F: Question>(
+fn rewrite_admitted<F: Question, G: Question>(
     alloc: Global,
     image: &Image,
     bytes: &[u8],
     hooks: &Hooks<F>,
+    edges: &EdgeHooks<G>,
 ) -> Result<Rewritten, RewriteFault>
     requires image { IsImage bytes.now image.now }
     requires admitted { limit_fault bytes.now ≡ None }
     requires limit { length bytes.now ≤ FILE_LIMIT }
-    ensures rewritten { IsRewritten bytes.now hooks.now result }
+    ensures rewritten { IsRewritten bytes.now (both hooks.now edges.now) result }
     ensures bytes { IfOk result (λ r. AreBytes r.bytes) }
 {
     let runs = runs(alloc, image, bytes)?;
     let sites = sites(alloc, &runs)?;
     let chains = chains(alloc, &sites)?;
-    let plan = lay(alloc, image, &runs, &sites, &chains, hooks)?;
+    let plan = lay_edges(alloc, image, &runs, &sites, &chains, hooks, edges)?;
     let count = sites.len() as u32;
     // the file is as large as the code and the table, and the sites are larger than both
     drop(chains);
@@ -144,7 +193,7 @@ fn rewrite_admitted<F: Question>(
     Ok(Rewritten {
         bytes: Bytes::new(file),
         sites: count,
-        added: added(bytes, hooks, &plan),
+        added: added(bytes, hooks, edges, &plan),
         counters: plan.counted.len() as u32,
     })
 }
@@ -154,12 +203,20 @@ fn are_bytes(_bytes: &[u8])
     ensures { AreBytes _bytes.now }
 {}
 
-/// The addresses that the plan of a file and a rule adds.
-fn added<F: Question>(_bytes: &[u8], _hooks: &Hooks<F>, plan: &Plan) -> Range
+/// The addresses that the plan of a file and rules adds.
+fn added<F: Question, G: Question>(
+    _bytes: &[u8],
+    _hooks: &Hooks<F>,
+    _edges: &EdgeHooks<G>,
+    plan: &Plan,
+) -> Range
     requires whole { load_refusal _bytes.now ≡ None }
     requires admitted { limit_fault _bytes.now ≡ None }
-    requires planned { IsPlanned _bytes.now _hooks.now plan.now }
-    ensures { result ≡ record { lo = plan.now.base; len = size _bytes.now _hooks.now } }
+    requires planned { IsPlanned _bytes.now (both _hooks.now _edges.now) plan.now }
+    ensures { result ≡ record {
+      lo = plan.now.base;
+      len = size _bytes.now (both _hooks.now _edges.now);
+    } }
 {
     Range::new(plan.base, added_len(plan))
 }

@@ -3,9 +3,13 @@
 
 ghost use Rattle.std.specs.Prelude.{◌≤◌, length};
 ghost use Rattle.counter_hooks.specs.Rules.{IsAscending, Tells, picked as is_picked};
+ghost use Rattle.counter_hooks.specs.declared.rules.Rule.TheVariants as rule;
+ghost use Rattle.edge_hooks.specs.Rules.{edge_picked};
+ghost use Rattle.edge_hooks.specs.declared.rules.EdgeRule.TheVariants as edge_rule;
 
-use crate::rewriting::{FILE_LIMIT, RewriteFault, Rewritten, rewrite};
+use crate::rewriting::{FILE_LIMIT, RewriteFault, Rewritten, rewrite, rewrite_edges};
 use counter_hooks::{Hooks, Question, Rule};
+use edge_hooks::{EdgeHooks, EdgeRule};
 use elf32_write::read_frame;
 use std::alloc::Global;
 use std::cell::Cell;
@@ -214,16 +218,39 @@ fn counts_a_return_in_front_of_its_piece(rt: HostRuntime) {
     assert_eq!(rt; counted_returns(rt.alloc(), &file), Some(counted));
 }
 
+/// The output of a file with all counters of all kinds, by questions that answer so.
+fn rewritten_whole<F: Question + Drop, G: Question + Drop>(
+    alloc: Global,
+    file: &[u8],
+    all: F,
+    ways: G,
+) -> Option<Rewritten>
+    requires limit { length file.now ≤ FILE_LIMIT }
+    requires all { Tells (F.answers all) (is_picked rule.All) }
+    requires ways { Tells (G.answers ways) (edge_picked edge_rule.All) }
+{
+    let hooks = Hooks::new(Rule::All, all);
+    let edges = EdgeHooks::new(EdgeRule::All, ways);
+    rewrite_edges(alloc, file, &hooks, &edges).ok()
+}
+
 #[test]
-fn asks_twice_a_site(rt: HostRuntime) {
+fn asks_both_questions_twice_a_site(rt: HostRuntime) {
+    // `jz` of the address behind it, `add ah,dh` and `hlt`: three sites, of which the first is a branch.
+    let file = edited(ONE, [(68, 3), (72, 3), (84, 0x74), (85, 0), (86, 0xF4)]);
     let asked = Cell::new(0u64);
-    let ask = |_: &Site| {
+    let all = |_: &Site| {
         asked.set(asked.get().wrapping_add(1));
         true
     };
-    let output = rewritten_by(rt.alloc(), &ONE, Rule::All, ask);
-    assert!(rt; output.is_ok_and(|output| output.counters == 10 && output.sites == 10));
-    assert_eq!(rt; asked.get(), 20);
+    let asked_of_ways = Cell::new(0u64);
+    let ways = |site: &Site| {
+        asked_of_ways.set(asked_of_ways.get().wrapping_add(1));
+        matches!(site.insn.next_kind(), Flow::Branch | Flow::Count)
+    };
+    let output = rewritten_whole(rt.alloc(), &file, all, ways);
+    assert!(rt; output.is_some_and(|output| output.counters == 5 && output.sites == 3));
+    assert_eq!(rt; (asked.get(), asked_of_ways.get()), (6, 6));
 }
 
 #[test]
