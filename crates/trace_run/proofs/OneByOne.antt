@@ -16,19 +16,19 @@ range_more (suc n) from =
     let e : from + 1 + n ≡ from + suc n = omega arith in
     ap (λ (t : List ℕ). from ∷ t) (range_more n (from + 1) ∙ ap (λ a. range_with_len (from + 1) n ++ a ∷ []) e)
 
-alone : (o : Option (ℕ × ℕ)) → cons_option o [] ≡ option_to_list o
+alone : (o : Option (ℕ × ℕ × ℕ)) → cons_option o [] ≡ option_to_list o
 alone None = refl
 alone (Some c) = refl
 
 -- the counts of one more site
-pub counts_more : (f : ℕ → Option (ℕ × ℕ)) (n : ℕ) (now new : List (ℕ × ℕ)) → now ≡ filter_map f (range_with_len 0 n) → new ≡ now ++ option_to_list (f n) → new ≡ filter_map f (range_with_len 0 (n + 1))
+pub counts_more : (f : ℕ → Option (ℕ × ℕ × ℕ)) (n : ℕ) (now new : List (ℕ × ℕ × ℕ)) → now ≡ filter_map f (range_with_len 0 n) → new ≡ now ++ option_to_list (f n) → new ≡ filter_map f (range_with_len 0 (n + 1))
 counts_more f n now new h p =
     let first : 0 + n ≡ n = omega arith in
     let more : filter_map f (range_with_len 0 (n + 1)) ≡ filter_map f (range_with_len 0 n) ++ filter_map f (n ∷ []) =
     ap (λ k. filter_map f (range_with_len 0 k)) (add-one n) ∙ (ap (filter_map f) (range_more n 0 ∙ ap (λ a. range_with_len 0 n ++ a ∷ []) first) ∙ filter_map-append f (range_with_len 0 n) (n ∷ [])) in
     p
-    ∙ (ap (λ (t : List (ℕ × ℕ)). t ++ option_to_list (f n)) h
-    ∙ (ap (λ (t : List (ℕ × ℕ)). filter_map f (range_with_len 0 n) ++ t) (sym (alone (f n))) ∙ sym more))
+    ∙ (ap (λ (t : List (ℕ × ℕ × ℕ)). t ++ option_to_list (f n)) h
+    ∙ (ap (λ (t : List (ℕ × ℕ × ℕ)). filter_map f (range_with_len 0 n) ++ t) (sym (alone (f n))) ∙ sym more))
 
 -- a word, an address, a space, a number and a line feed
 pub count_text : (old word address number a1 a2 a3 a4 new : List ℕ) → a1 ≡ old ++ word → a2 ≡ a1 ++ address → a3 ≡ a2 ++ 32 ∷ [] → a4 ≡ a3 ++ number → new ≡ a4 ++ 10 ∷ [] → new ≡ old ++ line (word ++ (address ++ (32 ∷ number)))
@@ -45,11 +45,11 @@ count_text old word address number a1 a2 a3 a4 new e1 e2 e3 e4 e5 =
     ∙ append_assoc old (word ++ (address ++ (space ++ number))) feed)))
 
 -- one line more
-pub lines_more : (f : ℕ × ℕ → List ℕ) (old now new : List ℕ) (cs : List (ℕ × ℕ)) (i : ℕ) (d : ℕ × ℕ) → i < length cs → now ≡ old ++ flat_map f (take i cs) → new ≡ now ++ f (get_or cs i d) → new ≡ old ++ flat_map f (take (i + 1) cs)
+pub lines_more : (f : ℕ × ℕ × ℕ → List ℕ) (old now new : List ℕ) (cs : List (ℕ × ℕ × ℕ)) (i : ℕ) (d : ℕ × ℕ × ℕ) → i < length cs → now ≡ old ++ flat_map f (take i cs) → new ≡ now ++ f (get_or cs i d) → new ≡ old ++ flat_map f (take (i + 1) cs)
 lines_more f old now new cs i d lt h p =
     p
     ∙ (ap (λ (t : List ℕ). t ++ f (get_or cs i d)) h
-    ∙ (flat_map_more f old (take i cs) (get_or cs i d) ∙ ap (λ (t : List (ℕ × ℕ)). old ++ flat_map f t) (sym (take_more cs i d lt))))
+    ∙ (flat_map_more f old (take i cs) (get_or cs i d) ∙ ap (λ (t : List (ℕ × ℕ × ℕ)). old ++ flat_map f t) (sym (take_more cs i d lt))))
 
 -- eight bytes that were read are a counter's
 pub counter_read : (m : Memory) (at : ℕ) (bytes : List ℕ) (value : ℕ) → length bytes ≡ 8 → read_fault m at (length bytes) ≡ None → bytes ≡ bytes_at m at (length bytes) → value ≡ little_number 8 bytes → Some value ≡ counter_at m at

@@ -1,5 +1,5 @@
 -- The text of a report. This project's own. A text is the list of its bytes.
-use Rattle.std.specs.Prelude.{ℕ, List, [], ◌∷◌, ◌++◌, codes, decimal}
+use Rattle.std.specs.Prelude.{ℕ, List, [], ◌∷◌, ◌++◌, ◌==◌, if◌then◌else◌, codes, decimal}
 use Rattle.std.specs.List.{flat_map}
 use Rattle.mv_base.specs.Text.{hex8}
 use Rattle.x86_insn.specs.declared.stop.Kind.{Kind}
@@ -36,16 +36,20 @@ end_line BadAnswer = words_line (codes "end badanswer") []
 end_line Gone = words_line (codes "end gone") []
 end_line NoStack = words_line (codes "end nostack") []
 
--- the address of a counted site, and how often it was executed
-abbrev pub count_line : ℕ × ℕ → List ℕ
-count_line c = line (codes "count " ++ (hex8 c.0 ++ (32 ∷ decimal c.1)))
+-- the word of a counter's kind: all executions of a site, or those of a branch or a loop that jump, or that don't
+abbrev pub kind_word : ℕ → List ℕ
+kind_word kind = if kind == 0 then codes "count " else (if kind == 1 then codes "taken " else codes "nottaken ")
+
+-- what is counted, the site's address, and how often
+abbrev pub count_line : ℕ × ℕ × ℕ → List ℕ
+count_line c = line (kind_word c.1 ++ (hex8 c.0 ++ (32 ∷ decimal c.2)))
 
 -- how many steps were completed
 abbrev pub steps_line : ℕ → List ℕ
 steps_line steps = line (codes "steps " ++ decimal steps)
 
 -- a line a call, the oldest first; a line a counter; the registers by their number; the image of the flags; the end; the steps
-abbrev pub report_lines : List (List ℕ) → List (ℕ × ℕ) → List ℕ → ℕ → End → ℕ → List ℕ
+abbrev pub report_lines : List (List ℕ) → List (ℕ × ℕ × ℕ) → List ℕ → ℕ → End → ℕ → List ℕ
 report_lines calls counts regs flags end steps =
     flat_map (words_line (codes "call")) calls
     ++ (flat_map count_line counts

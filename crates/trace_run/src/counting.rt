@@ -12,8 +12,8 @@ use mv_base::NoMemory;
 use proc_image::Memory;
 use std::alloc::Global;
 
-/// The counters of a file's frame that are mapped and not 0, each with the address of its site, in the order of the
-/// frame's list; none where the file has no frame.
+/// The counters of a file's frame that are mapped and not 0, each with the address of its site and its kind, in the order
+/// of the frame's list; none where the file has no frame.
 pub fn counts(alloc: Global, file: &[u8], memory: &Memory) -> Result<Counts, NoMemory>
     ensures { IfOk result (λ found. found ≡ counts_of (frame file.now) (cells memory.now)) }
 {
@@ -35,7 +35,10 @@ fn frame_counts(alloc: Global, frame: &Frame<'_>, memory: &Memory) -> Result<Cou
 }
 
 /// Appends a count, if there is one.
-fn push_count(count: Option<(u32, u64)>, found: &mut Vec<(u32, u64)>) -> Result<(), NoMemory>
+fn push_count(
+    count: Option<(u32, u8, u64)>,
+    found: &mut Vec<(u32, u8, u64)>,
+) -> Result<(), NoMemory>
     ensures { OnOk result (found.new.items ≡ found.old.items ++ option_to_list count) }
 {
     match count {
@@ -47,22 +50,22 @@ fn push_count(count: Option<(u32, u64)>, found: &mut Vec<(u32, u64)>) -> Result<
     }
 }
 
-/// The address of a counted site and its counter, where that is mapped and not 0.
-fn count_at(frame: &Frame<'_>, memory: &Memory, index: u32) -> Option<(u32, u64)>
+/// The address of a counted site, the counter's kind and the counter, where that is mapped and not 0.
+fn count_at(frame: &Frame<'_>, memory: &Memory, index: u32) -> Option<(u32, u8, u64)>
     requires { index < frame.now.counters }
     ensures { result ≡ count_of frame.now (cells memory.now) index }
 {
     let number = counter_at(memory, frame.counter_place(index));
-    with_number(frame.counted_at(index), number)
+    with_number(frame.counted_at(index), frame.kind_at(index), number)
 }
 
-/// An address with its number, unless that is 0.
-fn with_number(address: u32, number: Option<u64>) -> Option<(u32, u64)>
-    ensures { result ≡ numbered address number }
+/// An address and a kind with their number, unless that is 0.
+fn with_number(address: u32, kind: u8, number: Option<u64>) -> Option<(u32, u8, u64)>
+    ensures { result ≡ numbered address kind number }
 {
     match number {
         None | Some(0) => None,
-        Some(number) => Some((address, number)),
+        Some(number) => Some((address, kind, number)),
     }
 }
 

@@ -22,16 +22,17 @@ pub enum End {
     NoStack,
 }
 
-/// How often sites were executed: each with its address.
+/// How often sites were executed: each with its address and the counter's kind, 0 for all executions, 1 for those of a branch
+/// or a loop that jumped, 2 for those that didn't.
 #[derive(Drop)]
 pub struct Counts {
-    items: Vec<(u32, u64)>,
+    items: Vec<(u32, u8, u64)>,
 }
 
 impl Model for Counts {
     ghost use Rattle.std.specs.Prelude.{ℕ, List};
 
-    ghost Value = { List (ℕ × ℕ) };
+    ghost Value = { List (ℕ × ℕ × ℕ) };
 
     ghost view = { λ c. c.items.items };
 }
@@ -40,14 +41,14 @@ impl Counts {
     ghost use Rattle.std.specs.Prelude.{◌≡◌};
 
     /// The counts of a vector.
-    pub fn new(items: Vec<(u32, u64)>) -> Counts
+    pub fn new(items: Vec<(u32, u8, u64)>) -> Counts
         ensures { result ≡ items.items }
     {
         Counts { items }
     }
 
     /// The counts as a slice.
-    pub fn as_slice(&self) -> &[(u32, u64)]
+    pub fn as_slice(&self) -> &[(u32, u8, u64)]
         ensures { result.now ≡ self.now }
     {
         self.items.as_slice()

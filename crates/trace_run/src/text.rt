@@ -2,15 +2,15 @@
 
 ghost use Rattle.std.specs.Prelude.{◌≡◌, ◌++◌, IfOk, OnErr, OnOk, codes, map};
 ghost use Rattle.std.specs.List.{flat_map};
-ghost use Rattle.trace_run.specs.Texts.{count_line, end_line, steps_line, text_of, trap_line, words_line};
+ghost use Rattle.trace_run.specs.Texts.{count_line, end_line, kind_word as word_of, steps_line, text_of, trap_line, words_line};
 
 use crate::report::{End, Report};
 use mv_base::{NoMemory, put_decimal, put_hex8};
 use std::alloc::Global;
 use x86_machine::{Call, Kind};
 
-/// Appends the text of a report: a line `call` with its seven words for each call made, a line `count` with an address
-/// and a decimal for each counter, then the lines `regs`, `flags`, `end` and `steps`. Words and addresses have eight
+/// Appends the text of a report: a line `call` with its seven words for each call made, a line `count`, `taken` or
+/// `nottaken` with an address and a decimal for each counter, then the lines `regs`, `flags`, `end` and `steps`. Words and addresses have eight
 /// hexadecimal digits.
 ///
 /// # Errors
@@ -51,7 +51,7 @@ fn put_calls(calls: &[Call], to: &mut Vec<u8>) -> Result<(), NoMemory>
 }
 
 /// Appends a line for each counter.
-fn put_counts(counts: &[(u32, u64)], to: &mut Vec<u8>) -> Result<(), NoMemory>
+fn put_counts(counts: &[(u32, u8, u64)], to: &mut Vec<u8>) -> Result<(), NoMemory>
     ensures { OnOk result (to.new.items ≡ to.old.items ++ flat_map count_line counts.now) }
 {
     for count in counts {
@@ -61,16 +61,27 @@ fn put_counts(counts: &[(u32, u64)], to: &mut Vec<u8>) -> Result<(), NoMemory>
 }
 
 /// Appends the line of a counter.
-fn put_count(count: (u32, u64), to: &mut Vec<u8>) -> Result<(), NoMemory>
+fn put_count(count: (u32, u8, u64), to: &mut Vec<u8>) -> Result<(), NoMemory>
     ensures { OnOk result (to.new.items ≡ to.old.items ++ count_line count) }
 {
-    let (address, number) = count;
-    to.extend_from_slice(b"count ")?;
+    let (address, kind, number) = count;
+    to.extend_from_slice(kind_word(kind).as_bytes())?;
     put_hex8(address, to)?;
     to.push(b' ')?;
     put_decimal(number, to)?;
     to.push(b'\n')?;
     Ok(())
+}
+
+/// The word of a counter's kind.
+fn kind_word(kind: u8) -> &'static str
+    ensures { result.now ≡ word_of kind }
+{
+    match kind {
+        0 => "count ",
+        1 => "taken ",
+        _ => "nottaken ",
+    }
 }
 
 /// Appends a line of a word and numbers.

@@ -15,13 +15,16 @@ use elf32_read::Image;
 use mv_base::NoMemory;
 use std::alloc::Global;
 use syscall_log::Log;
+use thiserror::Error;
 use x86_machine::{Answers, CallList, Machine, Outcome, StartFault};
 
 /// Why a file isn't traced.
-#[derive(Clone, Copy, Debug, PartialEq, Eq)]
+#[derive(Clone, Copy, Debug, PartialEq, Eq, Error)]
 pub enum TraceFault {
     /// The pages with a mapped byte would have so many bytes, which are more than 67,108,864.
+    #[error("too many mapped bytes: {0}")]
     TooLarge(u64),
+    #[error("no memory")]
     NoMemory,
 }
 

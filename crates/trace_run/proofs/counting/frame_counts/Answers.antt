@@ -9,7 +9,7 @@ use Rattle.trace_run.proofs.counting.frame_counts.Goals as goal
 pub loop-index-preserved : goal.loop-index-preserved
 loop-index-preserved c =
     counts_more (count_at c.args.frame.now (cells c.args.memory.now)) c.loop-index.index c.loop-index.found.items _ c.loop-index.invariant
-    (c.in_ok-push_count.ensures ∙ ap (λ (o : Option (ℕ × ℕ)). c.loop-index.found.items ++ option_to_list o) c.count_at.ensures)
+    (c.in_ok-push_count.ensures ∙ ap (λ (o : Option (ℕ × ℕ × ℕ)). c.loop-index.found.items ++ option_to_list o) c.count_at.ensures)
 
 pub returns : goal.returns
 unfolding frame_counts
