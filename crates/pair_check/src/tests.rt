@@ -1,0 +1,1 @@
+//! The worked example with its output, and that output with bytes changed.
