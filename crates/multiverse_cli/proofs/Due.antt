@@ -2,11 +2,11 @@
 use Rattle.std.proofs.Common.{◌≡◌, ℕ, List, ◌∷◌, Option, Some, None, IsSomeAnd, IsTrue, sym, ◌∙◌, refl, subst, inl, inr}
 use Rattle.std.specs.List.{Contains}
 use Rattle.mv_base.specs.declared.status.Status.{Status}
-use Rattle.mv_base.specs.declared.status.Status.TheVariants.{Done, Usage, ReadFault, WriteFault, BadImage, NoRoom, BadLog, NoMemory, SinkFault, TooLarge, NoFrame}
+use Rattle.mv_base.specs.declared.status.Status.TheVariants.{Done, Usage, ReadFault, WriteFault, BadImage, NoRoom, BadLog, NoMemory, SinkFault, TooLarge, BadSource, Differs, NoFrame}
 use Rattle.multiverse_cli.specs.declared.refusal.Defect.{Defect}
 use Rattle.multiverse_cli.specs.Commands.{Lacks, Delivers}
-use Rattle.multiverse_cli.specs.Answers.{IsOversized, AreRead, IsUnwritten, IsLacking, IsNext, IsUnread, HasDelivery, LacksFor, Comes, ComesAt, ComesWithout, FirstDue, IsUnlessMemory, NoneUnread}
-use Rattle.multiverse_cli.specs.Outside.{Stored, Printed, IsSinkFault}
+use Rattle.multiverse_cli.specs.Answers.{IsOversized, AreRead, IsUnwritten, IsLacking, IsNext, IsUnread, HasDelivery, LacksFor, Comes, ComesAt, ComesWithout, FirstDue, IsUnlessMemory, IsOwed, NoneUnread}
+use Rattle.multiverse_cli.specs.Outside.{Stored, Printed, IsSinkFault, HasSinkFault}
 use Rattle.multiverse_cli.specs.Texts.{defect_status}
 use Rattle.multiverse_cli.specs.Words.{Asked}
 use Rattle.multiverse_cli.proofs.Inputs.{first-next, next-among, read-held, large-held, held-missing, read-oversized, read-large, read-one}
@@ -30,6 +30,8 @@ module _ (one : SpellsOne) (a : Asked) (s : Stored) (k : Printed) (t : IsTrue s.
       | inl large ↦ absurd (held-missing s t a.reads name (large-held s a.reads large.0 large.1) among missing)
       | inr lacks ↦ missing-lacks TooLarge lacks
     ]
+    missing-due BadSource h = missing-lacks BadSource h
+    missing-due Differs h = missing-lacks Differs h
     missing-due NoFrame h = missing-lacks NoFrame h
     missing-due BadImage h = missing-lacks BadImage h
     missing-due BadLog h = missing-lacks BadLog h
@@ -52,6 +54,8 @@ module _ (one : SpellsOne) (a : Asked) (s : Stored) (k : Printed) (t : IsTrue s.
     oversized-due Usage h = absurd h
     oversized-due ReadFault h = absurd (all h.0 h.1)
     oversized-due TooLarge h = inl refl
+    oversized-due BadSource h = oversized-lacks BadSource h
+    oversized-due Differs h = oversized-lacks Differs h
     oversized-due NoFrame h = oversized-lacks NoFrame h
     oversized-due BadImage h = oversized-lacks BadImage h
     oversized-due BadLog h = oversized-lacks BadLog h
@@ -85,6 +89,8 @@ module _ (one : SpellsOne) (a : Asked) (s : Stored) (k : Printed) (t : IsTrue s.
       | inl large ↦ absurd (read-large s t a.reads lacking.inputs large.0 lacking.read large.1)
       | inr lacks ↦ lacking-lacks TooLarge lacks
     ]
+    lacking-due BadSource h = lacking-lacks BadSource h
+    lacking-due Differs h = lacking-lacks Differs h
     lacking-due NoFrame h = lacking-lacks NoFrame h
     lacking-due BadImage h = lacking-lacks BadImage h
     lacking-due BadLog h = lacking-lacks BadLog h
@@ -111,6 +117,8 @@ module _ (one : SpellsOne) (a : Asked) (s : Stored) (k : Printed) (t : IsTrue s.
       | inl large ↦ absurd (read-large s t a.reads files large.0 read large.1)
       | inr lacks ↦ complete-lacks TooLarge lacks
     ]
+    complete-due BadSource h = complete-lacks BadSource h
+    complete-due Differs h = complete-lacks Differs h
     complete-due NoFrame h = complete-lacks NoFrame h
     complete-due BadImage h = complete-lacks BadImage h
     complete-due BadLog h = complete-lacks BadLog h
@@ -119,11 +127,41 @@ module _ (one : SpellsOne) (a : Asked) (s : Stored) (k : Printed) (t : IsTrue s.
     complete-due SinkFault h = absurd (printed h.0)
     complete-due NoMemory h = inr refl
 
+  -- ---- files that lack nothing, and a sink that failed
+
+  module _
+      (files : List (List ℕ)) (read : AreRead s a.reads files) (whole : (why : Defect) → ¬ Lacks a.work files why) (all : NoneUnread a s)
+      (written : (name : List ℕ) → ¬ IsUnwritten a s name) (printed : HasSinkFault k) where
+    unprinted-lacks : (status : Status) → LacksFor status a s → IsUnlessMemory status SinkFault
+    unprinted-lacks status h =
+        let P : List (List ℕ) → Type 0 = λ fs. Lacks a.work fs h.0 in
+        absurd (whole h.0 (subst P (read-one s t a.reads h.2.inputs files h.2.read read) h.2.lacks))
+
+    unprinted-due : (status : Status) → ComesAt status a s k → (status ≡ Done → ⊥) → IsUnlessMemory status SinkFault
+    unprinted-due Done h owed = absurd (owed refl)
+    unprinted-due Usage h owed = absurd h
+    unprinted-due ReadFault h owed = absurd (all h.0 h.1)
+    unprinted-due TooLarge h owed = elim h [
+      | inl large ↦ absurd (read-large s t a.reads files large.0 read large.1)
+      | inr lacks ↦ unprinted-lacks TooLarge lacks
+    ]
+    unprinted-due BadSource h owed = unprinted-lacks BadSource h
+    unprinted-due Differs h owed = unprinted-lacks Differs h
+    unprinted-due NoFrame h owed = unprinted-lacks NoFrame h
+    unprinted-due BadImage h owed = unprinted-lacks BadImage h
+    unprinted-due BadLog h owed = unprinted-lacks BadLog h
+    unprinted-due NoRoom h owed = unprinted-lacks NoRoom h
+    unprinted-due WriteFault h owed = absurd (written h.0.0 h.0.1)
+    unprinted-due SinkFault h owed = inl refl
+    unprinted-due NoMemory h owed = inr refl
+
 usage-due : (status : Status) → ComesWithout status → IsUnlessMemory status Usage
 usage-due Done h = absurd h
 usage-due Usage h = inl refl
 usage-due ReadFault h = absurd h
 usage-due TooLarge h = absurd h
+usage-due BadSource h = absurd h
+usage-due Differs h = absurd h
 usage-due NoFrame h = absurd h
 usage-due BadImage h = absurd h
 usage-due BadLog h = absurd h
@@ -133,14 +171,17 @@ usage-due SinkFault h = absurd h
 usage-due NoMemory h = inr refl
 
 -- which answer has to come
-pub due-of : SpellsOne → (status : Status) (asked : Option Asked) (s : Stored) (k : Printed) → Comes status asked s k → FirstDue status asked s k
-due-of one status None s k h = usage-due status h
-due-of one status (Some a) s k h =
+pub due-of :
+    SpellsOne → (status : Status) (asked : Option Asked) (s : Stored) (k : Printed) → Comes status asked s k → IsOwed status s k
+    → FirstDue status asked s k
+due-of one status None s k h owed = usage-due status h
+due-of one status (Some a) s k h owed =
     λ t. record {
       missing = λ name among missing. missing-due one a s k t name among missing status h;
       oversized = λ name among large all. oversized-due one a s k t name among large all status h;
       lacking = λ why lacking all. lacking-due one a s k t why lacking all status h;
       complete = λ files read whole all written printed. complete-due one a s k t files read whole all written printed status h;
+      unprinted = λ files read whole all written printed. unprinted-due one a s k t files read whole all written printed status h (owed.printing printed);
     }
 
 -- a read that failed at a name that the command doesn't read is no reason to answer ReadFault

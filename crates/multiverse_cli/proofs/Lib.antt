@@ -10,3 +10,4 @@ pub mod Gathering
 pub mod Found
 pub mod Samples
 pub mod Lines
+pub mod Counts

@@ -2,7 +2,7 @@
 use Rattle.std.proofs.Common.{◌≡◌, ℕ, ◌⊎◌, List, [], Option, Some, None, Result, Ok, Err, refl, sym, ◌∙◌, ap, subst, inl, inr, append-nil}
 use Rattle.mv_base.specs.Holding.{KeepsOrBegins}
 use Rattle.mv_base.specs.declared.status.Status.{Status}
-use Rattle.mv_base.specs.declared.status.Status.TheVariants.{Done, Usage, ReadFault, WriteFault, BadImage, NoRoom, BadLog, NoMemory, SinkFault, TooLarge, NoFrame}
+use Rattle.mv_base.specs.declared.status.Status.TheVariants.{Done, Usage, ReadFault, WriteFault, BadImage, NoRoom, BadLog, NoMemory, SinkFault, TooLarge, BadSource, Differs, NoFrame}
 use Rattle.multiverse_cli.specs.declared.failure.Failure.{Failure}
 use Rattle.multiverse_cli.specs.declared.failure.Failure.TheVariants as failure
 use Rattle.multiverse_cli.specs.declared.refusal.Defect.{Defect}
@@ -27,6 +27,8 @@ comes-text Done a s k text is h = (is.delivery, is.is)
 comes-text Usage a s k text is h = absurd h
 comes-text ReadFault a s k text is h = absurd h
 comes-text TooLarge a s k text is h = absurd h
+comes-text BadSource a s k text is h = absurd h
+comes-text Differs a s k text is h = absurd h
 comes-text NoFrame a s k text is h = absurd h
 comes-text BadImage a s k text is h = absurd h
 comes-text BadLog a s k text is h = absurd h
@@ -39,6 +41,7 @@ comes-defect : (why : Defect) (a : Asked) (s : Stored) (k : Printed) → IsLacki
 comes-defect defect.NoFrame a s k h = (defect.NoFrame, refl, h)
 comes-defect (defect.BadImage fault) a s k h = (defect.BadImage fault, refl, h)
 comes-defect (defect.BadLog line) a s k h = (defect.BadLog line, refl, h)
+comes-defect (defect.Differs found) a s k h = (defect.Differs found, refl, h)
 comes-defect (defect.TooLarge size) a s k h = inr (defect.TooLarge size, refl, h)
 comes-defect (defect.NoRoom size) a s k h = (defect.NoRoom size, refl, h)
 
@@ -93,6 +96,8 @@ leaves-text Done a s k text is h = (is.delivery, is.is, is.stored)
 leaves-text Usage a s k text is h = absurd h
 leaves-text ReadFault a s k text is h = absurd h
 leaves-text TooLarge a s k text is h = absurd h
+leaves-text BadSource a s k text is h = absurd h
+leaves-text Differs a s k text is h = absurd h
 leaves-text NoFrame a s k text is h = absurd h
 leaves-text BadImage a s k text is h = absurd h
 leaves-text BadLog a s k text is h = absurd h
@@ -105,6 +110,7 @@ leaves-defect : (why : Defect) (a : Asked) (s : Stored) → KeepsAll s → Leave
 leaves-defect defect.NoFrame a s h = h
 leaves-defect (defect.BadImage fault) a s h = h
 leaves-defect (defect.BadLog line) a s h = h
+leaves-defect (defect.Differs found) a s h = h
 leaves-defect (defect.TooLarge size) a s h = h
 leaves-defect (defect.NoRoom size) a s h = h
 
@@ -151,6 +157,8 @@ prints-text Done a s k text is h = (is.delivery, is.is, h)
 prints-text Usage a s k text is h = absurd h
 prints-text ReadFault a s k text is h = absurd h
 prints-text TooLarge a s k text is h = absurd h
+prints-text BadSource a s k text is h = absurd h
+prints-text Differs a s k text is h = absurd h
 prints-text NoFrame a s k text is h = absurd h
 prints-text BadImage a s k text is h = absurd h
 prints-text BadLog a s k text is h = absurd h
@@ -165,6 +173,7 @@ says-defect :
 says-defect defect.NoFrame a s k h said = (defect.NoFrame, refl, h, said)
 says-defect (defect.BadImage fault) a s k h said = (defect.BadImage fault, refl, h, said)
 says-defect (defect.BadLog line) a s k h said = (defect.BadLog line, refl, h, said)
+says-defect (defect.Differs found) a s k h said = (defect.Differs found, refl, h, said)
 says-defect (defect.TooLarge size) a s k h said = inr (defect.TooLarge size, refl, h, said)
 says-defect (defect.NoRoom size) a s k h said = (defect.NoRoom size, refl, h, said)
 
@@ -237,6 +246,8 @@ delivers-text Done a s k text is h = record { delivery = is.delivery; is = is.is
 delivers-text Usage a s k text is h = tt
 delivers-text ReadFault a s k text is h = tt
 delivers-text TooLarge a s k text is h = tt
+delivers-text BadSource a s k text is h = tt
+delivers-text Differs a s k text is h = tt
 delivers-text NoFrame a s k text is h = tt
 delivers-text BadImage a s k text is h = tt
 delivers-text BadLog a s k text is h = tt
@@ -249,6 +260,7 @@ delivers-defect : (why : Defect) (asked : Option Asked) (s : Stored) (k : Printe
 delivers-defect defect.NoFrame asked s k = tt
 delivers-defect (defect.BadImage fault) asked s k = tt
 delivers-defect (defect.BadLog line) asked s k = tt
+delivers-defect (defect.Differs found) asked s k = tt
 delivers-defect (defect.TooLarge size) asked s k = tt
 delivers-defect (defect.NoRoom size) asked s k = tt
 

@@ -12,7 +12,7 @@ use Rattle.elf32_read.specs.declared.image.Phdr.{Phdr}
 use Rattle.elf32_read.specs.declared.image.Segment.{Segment}
 use Rattle.elf32_read.specs.Faults.{code_size, head_fault, headers_fault, header_fault, segment_fault, load_refusal, limit_fault, refusal}
 use Rattle.elf32_read.specs.Fields.{header_at, header_count, header_offset, headers, segment_of, segments}
-use Rattle.elf32_read.specs.RunCount.{length-runs_of, bytes_len-runs_of, header_count-admitted}
+use Rattle.elf32_read.specs.RunCount.{bytes_len, length-runs_of, bytes_len-runs_of, header_count-admitted}
 use Rattle.elf32_read.specs.Runs.{runs_of}
 use Rattle.elf32_read.specs.Segments.{AreApart-runs_of}
 use Rattle.map_table.specs.Paged.{AreRuns}
@@ -21,8 +21,11 @@ use Rattle.superset.specs.declared.site.Site.{Site}
 use Rattle.sequence_join.specs.laws.Once.{each_once}
 use Rattle.sequence_join.specs.laws.Linked.{all_linked}
 use Rattle.image_layout.specs.Fit.{is_apart, has_room, lowest, first_fit}
-use Rattle.image_layout.specs.laws.LayFacts.{AreLaid, counted_few, chains_small, size_is}
+use Rattle.image_layout.specs.laws.LayFacts.{AreLaid, chains_by, size_is}
+use Rattle.image_layout.specs.laws.Counters.{listed_most}
+use Rattle.image_layout.specs.laws.SiteFacts.{sites_count}
 use Rattle.counter_hooks.specs.declared.rules.Rule.TheVariants as rule
+use Rattle.image_layout.specs.Rules.{Rules, alone}
 use Rattle.mv_rewrite.specs.Sites.{sites}
 use Rattle.mv_rewrite.specs.Layout.{base_of, chains, size}
 use Rattle.mv_rewrite.specs.declared.rewriting.RewriteFault.{RewriteFault}
@@ -36,6 +39,10 @@ use Rattle.multiverse_cli.specs.Sample.{image_of, code_after, next_number, befor
 use Rattle.multiverse_cli.specs.Verdicts.{IsVerdictOf}
 use Rattle.multiverse_cli.proofs.Verdicts.{absent, fault-none}
 use Rattle.multiverse_cli.proofs.Found.{no-refusal, sites-of-runs}
+
+-- nothing is counted
+abbrev nothing : Rules
+nothing = alone rule.None
 
 -- ---- the image of some code
 
@@ -172,13 +179,15 @@ module _ (code : List ℕ) (some : 0 < length code) (most : length code ≤ 1048
     linked = all_linked (sites b) (λ k. false) 0 (sites b) refl;
   }
 
-  size-most : size b rule.None ≤ 0x80000000
+  size-most : size b nothing ≤ 0x80000000
   size-most =
-      let whole = size_is rule.None (runs_of b) (sites b) (chains b) laid in
-      let pieces = chains_small rule.None (runs_of b) (sites b) (chains b) laid in
-      let few = counted_few rule.None (runs_of b) (sites b) (chains b) laid in
+      let whole = size_is nothing (runs_of b) (sites b) (chains b) laid in
+      let pieces = chains_by nothing (runs_of b) (sites b) (chains b) laid in
+      let few = listed_most nothing (sites b) in
+      let count = sites_count (runs_of b) (sites b) laid.sites in
+      let bytes : bytes_len (runs_of b) ≤ 1048576 = omega (arith, bytes_len-runs_of b load-sound, code-size, most) in
       let table = size_bound (runs_of b) (map (λ (s : Site). s.at) (sites b)) runs-are.few runs-are.small in
-      omega (arith, whole, pieces, few, table, runs-are.few)
+      omega (arith, whole, pieces, few, count, bytes, table, runs-are.few)
 
   apart : (to : ℕ) → is_apart 0x10000 to (segment_with n) ≡ true
   apart to = or-second (nat_le to 0x8048) _ (grind (arith, nat_tests))
@@ -187,11 +196,11 @@ module _ (code : List ℕ) (some : 0 < length code) (most : length code ≤ 1048
       or-second true y h = refl
       or-second false y h = h
 
-  room : has_room (segment_with n ∷ []) (size b rule.None) 0x10000 ≡ true
+  room : has_room (segment_with n ∷ []) (size b nothing) 0x10000 ≡ true
   unfolding has_room
   room =
-      let low : nat_le (4096 * 0x10000 + size b rule.None) 0xB0000000 ≡ true = grind (arith, nat_tests, size-most) in
-      rw (low, apart (0x10000 + size b rule.None / 4096)) refl
+      let low : nat_le (4096 * 0x10000 + size b nothing) 0xB0000000 ≡ true = grind (arith, nat_tests, size-most) in
+      rw (low, apart (0x10000 + size b nothing / 4096)) refl
 
 some-if : (test : Bool) (x : ℕ) (rest : Option ℕ) → (test ≡ false → IsSome rest) → IsSome (if test then Some x else rest)
 some-if true x rest h = refl
@@ -211,11 +220,11 @@ map-some f None h = h
 map-some f (Some x) h = refl
 
 -- its addresses have room
-pub has-base : (code : List ℕ) → 0 < length code → length code ≤ 1048576 → IsSome (base_of (image_of code) rule.None)
+pub has-base : (code : List ℕ) → 0 < length code → length code ≤ 1048576 → IsSome (base_of (image_of code) nothing)
 unfolding base_of first_fit
 has-base code some most =
-    let test = has_room (segments (image_of code)) (size (image_of code) rule.None) in
-    let passes : test 0x10000 ≡ true = ap (λ (ss : List Segment). has_room ss (size (image_of code) rule.None) 0x10000) (segments-are code some most) ∙ room code some most in
+    let test = has_room (segments (image_of code)) (size (image_of code) nothing) in
+    let passes : test 0x10000 ≡ true = ap (λ (ss : List Segment). has_room ss (size (image_of code) nothing) 0x10000) (segments-are code some most) ∙ room code some most in
     map-some (λ page. 4096 * page) (lowest test 0x100 0xAFF00) (lowest-some test 0x100 0xAFF00 0x10000 (omega arith) (omega arith) passes)
 
 -- ---- the code of a sample
@@ -271,7 +280,7 @@ module _ (number size : ℕ) (image : List ℕ) (is : image ≡ sample number si
     Verdict r = IsVerdictOf (λ _. ⊥) (IsSampling number size output) r
 
     -- a sample is not rewritten for want of memory alone
-    unwritten : (e : RewriteFault) → IsRewritten (sample number size) rule.None (Err e) → Verdict (Err (not_rewritten e))
+    unwritten : (e : RewriteFault) → IsRewritten (sample number size) nothing (Err e) → Verdict (Err (not_rewritten e))
     unwritten (Image f) h =
         let len = length-code size number in
         absurd (fault-none _ f (faultless (code_after number size) (omega (arith, some, len)) (omega (arith, most, len))) h)
@@ -280,9 +289,9 @@ module _ (number size : ℕ) (image : List ℕ) (is : image ≡ sample number si
         absurd (absent _ h.full (has-base (code_after number size) (omega (arith, some, len)) (omega (arith, most, len))))
     unwritten NoMemory h = tt
 
-    pub not-sampled : (e : RewriteFault) (r : Result OwnDelivery Objection) → IsRewritten image rule.None (Err e) → IsErrAnd r (λ o. o ≡ not_rewritten e) → Verdict r
+    pub not-sampled : (e : RewriteFault) (r : Result OwnDelivery Objection) → IsRewritten image nothing (Err e) → IsErrAnd r (λ o. o ≡ not_rewritten e) → Verdict r
     not-sampled e (Ok d) h passed = absurd passed
     not-sampled e (Err o) h passed =
         let P : Objection → Type 0 = λ x. Verdict (Err x) in
-        let Q : List ℕ → Type 0 = λ i. IsRewritten i rule.None (Err e) in
+        let Q : List ℕ → Type 0 = λ i. IsRewritten i nothing (Err e) in
         subst P (sym passed) (unwritten e (subst Q is h))

@@ -5,10 +5,13 @@ use Rattle.std.proofs.lemmas.Option.{same_Some}
 use Rattle.elf32_read.specs.declared.fault.ImageFault.{ImageFault}
 use Rattle.elf32_read.specs.Faults.{refusal}
 use Rattle.elf32_write.specs.Frame.{Frame, frame, frame_input}
-use Rattle.counter_hooks.specs.declared.rules.Rule.{Rule}
+use Rattle.image_layout.specs.Rules.{Rules}
 use Rattle.mv_rewrite.specs.Layout.{base_of}
 use Rattle.mv_rewrite.specs.Rewriting.{LacksRoom}
-use Rattle.mv_rewrite.specs.Upgrading.{rule_back}
+use Rattle.mv_rewrite.specs.Upgrading.{rules_back}
+use Rattle.pair_check.specs.Checking.{Compares}
+use Rattle.pair_check.specs.Parts.{differs}
+use Rattle.pair_check.specs.declared.differs.Differs.{Differs as Found}
 use Rattle.syscall_log.specs.declared.answer.Answer.{Answer}
 use Rattle.syscall_log.specs.declared.log.Log.{Log}
 use Rattle.syscall_log.specs.Faults.{IsBadLine}
@@ -18,10 +21,10 @@ use Rattle.trace_run.specs.declared.tracing.TraceFault.TheVariants as tracing
 use Rattle.trace_run.specs.Reports.{IsBeyond}
 use Rattle.trace_run.specs.laws.OneTrace.{one_outcome}
 use Rattle.multiverse_cli.specs.declared.refusal.Defect.{Defect}
-use Rattle.multiverse_cli.specs.declared.refusal.Defect.TheVariants.{NoFrame, BadImage, BadLog, TooLarge, NoRoom}
-use Rattle.multiverse_cli.specs.Commands.{NewFile, Delivery, IsRewritable, IsNotRewritten, IsNotTraced, IsTracing, IsNotListed, IsNotExtracted, IsExtracting, IsNotUpgraded, IsUpgrading, Lacks, Delivers}
+use Rattle.multiverse_cli.specs.declared.refusal.Defect.TheVariants.{NoFrame, BadImage, BadLog, Differs, TooLarge, NoRoom}
+use Rattle.multiverse_cli.specs.Commands.{NewFile, Delivery, IsRewritable, IsNotRewritten, IsNotTraced, IsTracing, IsNotListed, IsNotExtracted, IsExtracting, IsNotUpgraded, IsUpgrading, IsNotAlike, Lacks, Delivers}
 use Rattle.multiverse_cli.specs.Texts.{defect_status}
-use Rattle.multiverse_cli.specs.Words.{Work, ToRewrite, ToTrace, ToList, ToSample, ToExtract, ToUpgrade, output_of}
+use Rattle.multiverse_cli.specs.Words.{Work, ToRewrite, ToTrace, ToList, ToSample, ToExtract, ToUpgrade, ToCheck, output_of}
 
 -- a value that isn't there is none
 pub absent : {A : Type 0} (o : Option A) → o ≡ None → IsSome o → ⊥
@@ -33,26 +36,30 @@ fault-none o fault none some = let e : None ≡ Some fault = sym none ∙ some i
 
 -- ---- rewrite
 
-rewrite-one : (b : List ℕ) (which : Rule) (why other : Defect) → IsNotRewritten b which why → IsNotRewritten b which other → defect_status why ≡ defect_status other
+rewrite-one : (b : List ℕ) (which : Rules) (why other : Defect) → IsNotRewritten b which why → IsNotRewritten b which other → defect_status why ≡ defect_status other
 rewrite-one b which NoFrame other h k = absurd h
 rewrite-one b which (BadImage f) NoFrame h k = absurd k
 rewrite-one b which (BadImage f) (BadImage g) h k = refl
 rewrite-one b which (BadImage f) (BadLog n) h k = absurd k
 rewrite-one b which (BadImage f) (TooLarge n) h k = absurd k
+rewrite-one b which (BadImage f) (Differs found) h k = absurd k
 rewrite-one b which (BadImage f) (NoRoom n) h k = absurd (fault-none _ f k.whole h)
 rewrite-one b which (BadLog n) other h k = absurd h
 rewrite-one b which (TooLarge n) other h k = absurd h
+rewrite-one b which (Differs found) other h k = absurd h
 rewrite-one b which (NoRoom n) NoFrame h k = absurd k
 rewrite-one b which (NoRoom n) (BadImage f) h k = absurd (fault-none _ f h.whole k)
 rewrite-one b which (NoRoom n) (BadLog m) h k = absurd k
 rewrite-one b which (NoRoom n) (TooLarge m) h k = absurd k
+rewrite-one b which (NoRoom n) (Differs found) h k = absurd k
 rewrite-one b which (NoRoom n) (NoRoom m) h k = refl
 
-rewrite-clash : (b : List ℕ) (which : Rule) (why : Defect) → IsNotRewritten b which why → IsRewritable b which → ⊥
+rewrite-clash : (b : List ℕ) (which : Rules) (why : Defect) → IsNotRewritten b which why → IsRewritable b which → ⊥
 rewrite-clash b which NoFrame h k = h
 rewrite-clash b which (BadImage f) h k = fault-none _ f k.sound h
 rewrite-clash b which (BadLog n) h k = h
 rewrite-clash b which (TooLarge n) h k = h
+rewrite-clash b which (Differs found) h k = h
 rewrite-clash b which (NoRoom n) h k = absent (base_of b which) h.full k.room
 
 -- ---- trace
@@ -70,17 +77,21 @@ trace-one steps b l (BadImage f) NoFrame h k = absurd k
 trace-one steps b l (BadImage f) (BadImage g) h k = refl
 trace-one steps b l (BadImage f) (BadLog n) h k = absurd (fault-none _ f k.sound h)
 trace-one steps b l (BadImage f) (TooLarge n) h k = absurd (fault-none _ f k.traceable.sound h)
+trace-one steps b l (BadImage f) (Differs found) h k = absurd k
 trace-one steps b l (BadImage f) (NoRoom n) h k = absurd k
 trace-one steps b l (BadLog n) NoFrame h k = absurd k
 trace-one steps b l (BadLog n) (BadImage f) h k = absurd (fault-none _ f h.sound k)
 trace-one steps b l (BadLog n) (BadLog m) h k = refl
 trace-one steps b l (BadLog n) (TooLarge m) h k = absurd (log-clash l n k.log h.bad k.traceable.spelled)
+trace-one steps b l (BadLog n) (Differs found) h k = absurd k
 trace-one steps b l (BadLog n) (NoRoom m) h k = absurd k
 trace-one steps b l (TooLarge n) NoFrame h k = absurd k
 trace-one steps b l (TooLarge n) (BadImage f) h k = absurd (fault-none _ f h.traceable.sound k)
 trace-one steps b l (TooLarge n) (BadLog m) h k = absurd (log-clash l m h.log k.bad h.traceable.spelled)
 trace-one steps b l (TooLarge n) (TooLarge m) h k = refl
+trace-one steps b l (TooLarge n) (Differs found) h k = absurd k
 trace-one steps b l (TooLarge n) (NoRoom m) h k = absurd k
+trace-one steps b l (Differs found) other h k = absurd h
 trace-one steps b l (NoRoom n) other h k = absurd h
 
 -- a text spells one log
@@ -107,6 +118,7 @@ trace-clash one steps b l (TooLarge n) d h k =
     let P : Log → Type 0 = λ log. IsBeyond b log steps n in
     one_outcome b k.log steps (Ok k.report) (Err (tracing.TooLarge n)) k.reports
     (same-log one h.log k.log P (sym h.traceable.spelled ∙ k.traceable.spelled) h.beyond)
+trace-clash one steps b l (Differs found) d h k = h
 trace-clash one steps b l (NoRoom n) d h k = h
 
 -- ---- list
@@ -117,9 +129,11 @@ list-one b (BadImage f) NoFrame h k = absurd k
 list-one b (BadImage f) (BadImage g) h k = refl
 list-one b (BadImage f) (BadLog n) h k = absurd k
 list-one b (BadImage f) (TooLarge n) h k = absurd k
+list-one b (BadImage f) (Differs found) h k = absurd k
 list-one b (BadImage f) (NoRoom n) h k = absurd k
 list-one b (BadLog n) other h k = absurd h
 list-one b (TooLarge n) other h k = absurd h
+list-one b (Differs found) other h k = absurd h
 list-one b (NoRoom n) other h k = absurd h
 
 list-clash : (b : List ℕ) (why : Defect) → IsNotListed b why → refusal b ≡ None → ⊥
@@ -127,6 +141,7 @@ list-clash b NoFrame h k = h
 list-clash b (BadImage f) h k = fault-none _ f k h
 list-clash b (BadLog n) h k = h
 list-clash b (TooLarge n) h k = h
+list-clash b (Differs found) h k = h
 list-clash b (NoRoom n) h k = h
 
 -- ---- extract
@@ -140,10 +155,12 @@ extract-one x NoFrame NoFrame h k = refl
 extract-one x NoFrame (BadImage f) h k = absurd k
 extract-one x NoFrame (BadLog n) h k = absurd k
 extract-one x NoFrame (TooLarge n) h k = absurd k
+extract-one x NoFrame (Differs found) h k = absurd k
 extract-one x NoFrame (NoRoom n) h k = absurd k
 extract-one x (BadImage f) other h k = absurd h
 extract-one x (BadLog n) other h k = absurd h
 extract-one x (TooLarge n) other h k = absurd h
+extract-one x (Differs found) other h k = absurd h
 extract-one x (NoRoom n) other h k = absurd h
 
 extract-clash : (x output : List ℕ) (why : Defect) (d : Delivery) → IsNotExtracted x why → IsExtracting output x d → ⊥
@@ -151,6 +168,7 @@ extract-clash x output NoFrame d h k = frame-none x k.frame_of h k.framed
 extract-clash x output (BadImage f) d h k = h
 extract-clash x output (BadLog n) d h k = h
 extract-clash x output (TooLarge n) d h k = h
+extract-clash x output (Differs found) d h k = h
 extract-clash x output (NoRoom n) d h k = h
 
 -- ---- upgrade
@@ -170,18 +188,22 @@ upgrade-one x NoFrame NoFrame h k = refl
 upgrade-one x NoFrame (BadImage f) h k = absurd (frame-none x k.0 h k.1)
 upgrade-one x NoFrame (BadLog n) h k = absurd k
 upgrade-one x NoFrame (TooLarge n) h k = absurd k
+upgrade-one x NoFrame (Differs found) h k = absurd k
 upgrade-one x NoFrame (NoRoom n) h k = absurd (frame-none x k.0 h k.1)
 upgrade-one x (BadImage f) NoFrame h k = absurd (frame-none x h.0 k h.1)
 upgrade-one x (BadImage f) (BadImage g) h k = refl
 upgrade-one x (BadImage f) (BadLog n) h k = absurd k
 upgrade-one x (BadImage f) (TooLarge n) h k = absurd k
+upgrade-one x (BadImage f) (Differs found) h k = absurd k
 upgrade-one x (BadImage f) (NoRoom n) h k = absurd (fault-or-room x f n h k)
 upgrade-one x (BadLog n) other h k = absurd h
 upgrade-one x (TooLarge n) other h k = absurd h
+upgrade-one x (Differs found) other h k = absurd h
 upgrade-one x (NoRoom n) NoFrame h k = absurd (frame-none x h.0 k h.1)
 upgrade-one x (NoRoom n) (BadImage f) h k = absurd (fault-or-room x f n k h)
 upgrade-one x (NoRoom n) (BadLog m) h k = absurd k
 upgrade-one x (NoRoom n) (TooLarge m) h k = absurd k
+upgrade-one x (NoRoom n) (Differs found) h k = absurd k
 upgrade-one x (NoRoom n) (NoRoom m) h k = refl
 
 -- what an input of a frame lacks clashes with its rewriting
@@ -193,12 +215,52 @@ module _ (x output : List ℕ) (d : Delivery) (k : IsUpgrading output x d) where
   upgrade-clash NoFrame h = frame-none x k.old h k.framed
   upgrade-clash (BadImage fault) h =
       let P : Frame → Type 0 = λ f. refusal (frame_input f) ≡ Some fault in
-      rewrite-clash b (rule_back k.old) (BadImage fault) (subst P (one-frame x h.0 k.old h.1 k.framed) h.2) k.rewriting.rewrites.rewritable
+      rewrite-clash b (rules_back k.old) (BadImage fault) (subst P (one-frame x h.0 k.old h.1 k.framed) h.2) k.rewriting.rewrites.rewritable
   upgrade-clash (BadLog n) h = h
   upgrade-clash (TooLarge n) h = h
+  upgrade-clash (Differs found) h = h
   upgrade-clash (NoRoom n) h =
-      let P : Frame → Type 0 = λ f. LacksRoom (frame_input f) (rule_back f) n in
-      rewrite-clash b (rule_back k.old) (NoRoom n) (subst P (one-frame x h.0 k.old h.1 k.framed) h.2) k.rewriting.rewrites.rewritable
+      let P : Frame → Type 0 = λ f. LacksRoom (frame_input f) (rules_back f) n in
+      rewrite-clash b (rules_back k.old) (NoRoom n) (subst P (one-frame x h.0 k.old h.1 k.framed) h.2) k.rewriting.rewrites.rewritable
+
+-- ---- check
+
+check-one : (b x : List ℕ) (why other : Defect) → IsNotAlike b x why → IsNotAlike b x other → defect_status why ≡ defect_status other
+check-one b x NoFrame NoFrame h k = refl
+check-one b x NoFrame (BadImage f) h k = absurd (fault-none _ f h.whole k)
+check-one b x NoFrame (BadLog n) h k = absurd k
+check-one b x NoFrame (Differs found) h k = absurd (frame-none x k.found h.none k.framed)
+check-one b x NoFrame (TooLarge n) h k = absurd k
+check-one b x NoFrame (NoRoom n) h k = absurd k
+check-one b x (BadImage f) NoFrame h k = absurd (fault-none _ f k.whole h)
+check-one b x (BadImage f) (BadImage g) h k = refl
+check-one b x (BadImage f) (BadLog n) h k = absurd k
+check-one b x (BadImage f) (Differs found) h k = absurd (fault-none _ f k.whole h)
+check-one b x (BadImage f) (TooLarge n) h k = absurd k
+check-one b x (BadImage f) (NoRoom n) h k = absurd k
+check-one b x (BadLog n) other h k = absurd h
+check-one b x (Differs found) NoFrame h k = absurd (frame-none x h.found k.none h.framed)
+check-one b x (Differs found) (BadImage f) h k = absurd (fault-none _ f h.whole k)
+check-one b x (Differs found) (BadLog n) h k = absurd k
+check-one b x (Differs found) (Differs other) h k = refl
+check-one b x (Differs found) (TooLarge n) h k = absurd k
+check-one b x (Differs found) (NoRoom n) h k = absurd k
+check-one b x (TooLarge n) other h k = absurd h
+check-one b x (NoRoom n) other h k = absurd h
+
+-- a file in which nothing differs has no part that does
+alike-differs : (b x : List ℕ) (found : Found) → Compares b x None → Compares b x (Some found) → ⊥
+alike-differs b x found h k =
+    let P : Frame → Type 0 = λ f. differs b x f ≡ Some found in
+    let e : None ≡ Some found = sym h.differs_so ∙ subst P (one-frame x k.found h.found k.framed h.framed) k.differs_so in cc
+
+pub check-clash : (b x : List ℕ) (why : Defect) → Compares b x None → IsNotAlike b x why → ⊥
+check-clash b x NoFrame k h = frame-none x k.found h.none k.framed
+check-clash b x (BadImage f) k h = fault-none _ f k.whole h
+check-clash b x (BadLog n) k h = h
+check-clash b x (Differs found) k h = alike-differs b x found k h
+check-clash b x (TooLarge n) k h = h
+check-clash b x (NoRoom n) k h = h
 
 -- ---- all commands
 
@@ -224,6 +286,10 @@ one-defect (ToExtract output) (x ∷ c ∷ files) why other h k = absurd h
 one-defect (ToUpgrade output) [] why other h k = absurd h
 one-defect (ToUpgrade output) (x ∷ []) why other h k = upgrade-one x why other h k
 one-defect (ToUpgrade output) (x ∷ c ∷ files) why other h k = absurd h
+one-defect ToCheck [] why other h k = absurd h
+one-defect ToCheck (b ∷ []) why other h k = absurd h
+one-defect ToCheck (b ∷ x ∷ []) why other h k = check-one b x why other h k
+one-defect ToCheck (b ∷ x ∷ c ∷ files) why other h k = absurd h
 
 -- files that lack something have nothing that is delivered over them
 pub defect-clash : SpellsOne → (w : Work) (files : List (List ℕ)) (why : Defect) (d : Delivery) → Lacks w files why → Delivers w files d → ⊥
@@ -245,6 +311,10 @@ defect-clash one (ToExtract output) (x ∷ c ∷ files) why d h k = h
 defect-clash one (ToUpgrade output) [] why d h k = h
 defect-clash one (ToUpgrade output) (x ∷ []) why d h k = upgrade-clash x output d k why h
 defect-clash one (ToUpgrade output) (x ∷ c ∷ files) why d h k = h
+defect-clash one ToCheck [] why d h k = h
+defect-clash one ToCheck (b ∷ []) why d h k = h
+defect-clash one ToCheck (b ∷ x ∷ []) why d h k = check-clash b x why k.alike h
+defect-clash one ToCheck (b ∷ x ∷ c ∷ files) why d h k = h
 
 -- the file that is delivered has the name that the command writes
 pub output-named :
@@ -268,3 +338,7 @@ output-named (ToExtract output) (x ∷ c ∷ files) d f h e = absurd h
 output-named (ToUpgrade output) [] d f h e = absurd h
 output-named (ToUpgrade output) (x ∷ []) d f h e = ap (option_map (λ g. g.name)) (sym h.rewriting.file_is ∙ e)
 output-named (ToUpgrade output) (x ∷ c ∷ files) d f h e = absurd h
+output-named ToCheck [] d f h e = absurd h
+output-named ToCheck (b ∷ []) d f h e = absurd h
+output-named ToCheck (b ∷ x ∷ []) d f h e = let clash : None ≡ Some f = sym h.file_is ∙ e in cc
+output-named ToCheck (b ∷ x ∷ c ∷ files) d f h e = absurd h

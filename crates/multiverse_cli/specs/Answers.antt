@@ -1,11 +1,11 @@
 -- What an answer of the program means, for any command. This project's own.
-use Rattle.std.specs.Prelude.{◌≡◌, ℕ, ◌<◌, ◌≤◌, ◌⊎◌, IsTrue, List, [], ◌∷◌, length, Contains, Option, Some, None, IsSomeAnd}
+use Rattle.std.specs.Prelude.{◌≡◌, ◌≢◌, ℕ, ◌<◌, ◌≤◌, ◌⊎◌, IsTrue, List, [], ◌∷◌, length, Contains, Option, Some, None, IsSomeAnd}
 use Rattle.mv_base.specs.Holding.{KeepsOrBegins}
 use Rattle.mv_base.specs.declared.status.Status.{Status}
-use Rattle.mv_base.specs.declared.status.Status.TheVariants.{Done, Usage, ReadFault, WriteFault, BadImage, NoRoom, BadLog, NoMemory, SinkFault, TooLarge, NoFrame}
+use Rattle.mv_base.specs.declared.status.Status.TheVariants.{Done, Usage, ReadFault, WriteFault, BadImage, NoRoom, BadLog, NoMemory, SinkFault, TooLarge, BadSource, Differs, NoFrame}
 use Rattle.multiverse_cli.specs.declared.refusal.Defect.{Defect}
 use Rattle.multiverse_cli.specs.Commands.{NewFile, Delivery, Lacks, Delivers}
-use Rattle.multiverse_cli.specs.Outside.{Stored, Printed, IsReadFault, IsWriteFault, IsSinkFault, KeepsAll, KeepsOthers, Held, Holds, HeldAs, SaysAll, SaysPart, Says}
+use Rattle.multiverse_cli.specs.Outside.{Stored, Printed, IsReadFault, IsWriteFault, IsSinkFault, HasReadFault, HasWriteFault, HasSinkFault, KeepsAll, KeepsOthers, Held, Holds, HeldAs, SaysAll, SaysPart, Says}
 use Rattle.multiverse_cli.specs.Texts.{usage_message, read_message, size_message, write_message, memory_message, defect_message, defect_status}
 use Rattle.multiverse_cli.specs.Words.{Asked, output_of}
 
@@ -80,6 +80,8 @@ ComesWithout Done = ⊥
 ComesWithout Usage = Unit {0}
 ComesWithout ReadFault = ⊥
 ComesWithout TooLarge = ⊥
+ComesWithout BadSource = ⊥
+ComesWithout Differs = ⊥
 ComesWithout NoFrame = ⊥
 ComesWithout BadImage = ⊥
 ComesWithout BadLog = ⊥
@@ -98,6 +100,8 @@ ComesAt Done a s k = HasDelivery a s
 ComesAt Usage a s k = ⊥
 ComesAt ReadFault a s k = (name : List ℕ) × IsUnread a s name
 ComesAt TooLarge a s k = ((name : List ℕ) × IsFirstOversized s a.reads name) ⊎ LacksFor TooLarge a s
+ComesAt BadSource a s k = LacksFor BadSource a s
+ComesAt Differs a s k = LacksFor Differs a s
 ComesAt NoFrame a s k = LacksFor NoFrame a s
 ComesAt BadImage a s k = LacksFor BadImage a s
 ComesAt BadLog a s k = LacksFor BadLog a s
@@ -133,11 +137,23 @@ pub record IsDue (status : Status) (a : Asked) (s : Stored) (k : Printed) : Type
   pub complete :
       (inputs : List (List ℕ)) → AreRead s a.reads inputs → ((why : Defect) → ¬ Lacks a.work inputs why)
       → NoneUnread a s → ((name : List ℕ) → ¬ IsUnwritten a s name) → ¬ IsSinkFault k → IsUnlessMemory status Done
+  -- where only the sink failed, that is the answer
+  pub unprinted :
+      (inputs : List (List ℕ)) → AreRead s a.reads inputs → ((why : Defect) → ¬ Lacks a.work inputs why)
+      → NoneUnread a s → ((name : List ℕ) → ¬ IsUnwritten a s name) → HasSinkFault k → IsUnlessMemory status SinkFault
 
 -- which answer has to come: Usage without a command, else the first that is due
 abbrev pub FirstDue : Status → Option Asked → Stored → Printed → Type 0
 FirstDue status None s k = IsUnlessMemory status Usage
 FirstDue status (Some a) s k = IsTrue s.tells → IsDue status a s k
+
+-- which answer a fault of the outside has, by the counts alone, so also where nothing is told of what is held or was
+-- written: a command whose file could not be read, or whose output could not be written, answers that, want of memory
+-- aside, and one whose text could not be printed isn't done; a message that could not be printed leaves the answer
+pub record IsOwed (status : Status) (s : Stored) (k : Printed) : Type 0 where
+  pub reading : HasReadFault s → IsUnlessMemory status ReadFault
+  pub writing : HasWriteFault s → IsUnlessMemory status WriteFault
+  pub printing : HasSinkFault k → status ≢ Done
 
 -- ---- what an answer leaves in the store
 
@@ -165,6 +181,8 @@ LeavesAt Done a s = HasStored a s
 LeavesAt Usage a s = KeepsAll s
 LeavesAt ReadFault a s = KeepsAll s
 LeavesAt TooLarge a s = KeepsAll s
+LeavesAt BadSource a s = KeepsAll s
+LeavesAt Differs a s = KeepsAll s
 LeavesAt NoFrame a s = KeepsAll s
 LeavesAt BadImage a s = KeepsAll s
 LeavesAt BadLog a s = KeepsAll s
@@ -195,6 +213,8 @@ PrintsWithout Done k = ⊥
 PrintsWithout Usage k = Says k usage_message
 PrintsWithout ReadFault k = ⊥
 PrintsWithout TooLarge k = ⊥
+PrintsWithout BadSource k = ⊥
+PrintsWithout Differs k = ⊥
 PrintsWithout NoFrame k = ⊥
 PrintsWithout BadImage k = ⊥
 PrintsWithout BadLog k = ⊥
@@ -217,6 +237,8 @@ PrintsAt Done a s k = (d : Delivery) × IsDelivery a s d × SaysAll k d.text
 PrintsAt Usage a s k = ⊥
 PrintsAt ReadFault a s k = (name : List ℕ) × IsUnread a s name × Says k (read_message name)
 PrintsAt TooLarge a s k = SaysSize a s k ⊎ SaysDefect TooLarge a s k
+PrintsAt BadSource a s k = SaysDefect BadSource a s k
+PrintsAt Differs a s k = SaysDefect Differs a s k
 PrintsAt NoFrame a s k = SaysDefect NoFrame a s k
 PrintsAt BadImage a s k = SaysDefect BadImage a s k
 PrintsAt BadLog a s k = SaysDefect BadLog a s k
@@ -245,6 +267,8 @@ DeliversAll Done asked s k = IsSomeAnd asked (λ a. Delivered a s k)
 DeliversAll Usage asked s k = Unit {0}
 DeliversAll ReadFault asked s k = Unit {0}
 DeliversAll TooLarge asked s k = Unit {0}
+DeliversAll BadSource asked s k = Unit {0}
+DeliversAll Differs asked s k = Unit {0}
 DeliversAll NoFrame asked s k = Unit {0}
 DeliversAll BadImage asked s k = Unit {0}
 DeliversAll BadLog asked s k = Unit {0}

@@ -3,14 +3,18 @@ use Rattle.std.specs.Prelude.{◌≡◌, ℕ, List, [], ◌∷◌, length, codes
 use Rattle.elf32_read.specs.Faults.{refusal, load_refusal}
 use Rattle.elf32_write.specs.Frame.{Frame, frame, frame_input}
 use Rattle.simulation_laws.specs.Stopping.{Simulates}
+use Rattle.elf32_read.specs.Runs.{runs_of}
+use Rattle.simulation_laws.specs.Code.{code_in}
+use Rattle.superset.specs.Sites.{sites_in}
 use Rattle.mv_rewrite.specs.Sites.{sites}
-use Rattle.counter_hooks.specs.declared.rules.Rule.{Rule}
+use Rattle.image_layout.specs.Rules.{Rules, alone}
 use Rattle.counter_hooks.specs.declared.rules.Rule.TheVariants as rule
-use Rattle.mv_rewrite.specs.Layout.{base_of, size, counted_at}
+use Rattle.mv_rewrite.specs.Layout.{base_of, size, listed_at}
 use Rattle.mv_rewrite.specs.Output.{output}
 use Rattle.mv_rewrite.specs.OutputFile.{IsWrittenFor}
 use Rattle.mv_rewrite.specs.Rewriting.{LacksRoom}
-use Rattle.mv_rewrite.specs.Upgrading.{rule_back}
+use Rattle.mv_rewrite.specs.Upgrading.{rules_back}
+use Rattle.pair_check.specs.Checking.{Compares, LacksFrame}
 use Rattle.syscall_log.specs.declared.log.Log.{Log}
 use Rattle.syscall_log.specs.Faults.{IsBadLine}
 use Rattle.syscall_log.specs.Grammar.{text_of as log_text}
@@ -18,11 +22,11 @@ use Rattle.trace_run.specs.declared.report.Report.{Report}
 use Rattle.trace_run.specs.Reports.{IsReport, IsBeyond}
 use Rattle.trace_run.specs.Texts.{text_of as report_text}
 use Rattle.multiverse_cli.specs.declared.refusal.Defect.{Defect}
-use Rattle.multiverse_cli.specs.declared.refusal.Defect.TheVariants.{NoFrame, BadImage, BadLog, TooLarge, NoRoom}
+use Rattle.multiverse_cli.specs.declared.refusal.Defect.TheVariants.{NoFrame, BadImage, BadLog, Differs, TooLarge, NoRoom}
 use Rattle.multiverse_cli.specs.Listing.{listing}
 use Rattle.multiverse_cli.specs.Sample.{sample}
 use Rattle.multiverse_cli.specs.Texts.{count_line, rewritten_text, sample_text}
-use Rattle.multiverse_cli.specs.Words.{Work, ToRewrite, ToTrace, ToList, ToSample, ToExtract, ToUpgrade}
+use Rattle.multiverse_cli.specs.Words.{Work, ToRewrite, ToTrace, ToList, ToSample, ToExtract, ToUpgrade, ToCheck}
 
 -- a file that a command writes
 pub record NewFile : Type 0 where
@@ -36,8 +40,8 @@ pub record Delivery : Type 0 where
 
 -- ---- rewrite
 
--- a file that is rewritten by a rule of which sites are counted: it has no fault, and its addresses have room
-pub record IsRewritable (b : List ℕ) (which : Rule) : Type 0 where
+-- a file that is rewritten by rules of what is counted: it has no fault, and its addresses have room
+pub record IsRewritable (b : List ℕ) (which : Rules) : Type 0 where
   pub sound : refusal b ≡ None
   pub room : IsSome (base_of b which)
 
@@ -46,27 +50,29 @@ pub record IsRewritable (b : List ℕ) (which : Rule) : Type 0 where
 -- one, shows nothing in between, and stops where the file stops (by a fetch fault at the same address, where the file
 -- meets bytes that are no instruction); and it is what is written for the file: an image with a frame, in which the
 -- file, its code, the table and the private area stand and load so; each site that the rule picks has a counter, which
--- holds how often the site was executed
-pub record Rewrites (b : List ℕ) (which : Rule) (x : List ℕ) : Type 0 where
+-- holds how often the site was executed, and each branch or loop that the edge rule picks has two, which hold how often it
+-- was taken and how often it was passed
+pub record Rewrites (b : List ℕ) (which : Rules) (x : List ℕ) : Type 0 where
   pub rewritable : IsRewritable b which
   pub output_is : output b which ≡ Some x
   pub simulates : Simulates b x
   pub written : (f : Frame) × IsWrittenFor b which x f
 
 -- what is printed of a file that is rewritten: the number of its sites, the added addresses, and the number of counters
-abbrev pub sites_text : List ℕ → Rule → List ℕ
-sites_text b which = rewritten_text (length (sites b)) (unwrap_or (base_of b which) 0) (size b which) (length (counted_at b which))
+abbrev pub sites_text : List ℕ → Rules → List ℕ
+sites_text b which = rewritten_text (length (sites b)) (unwrap_or (base_of b which) 0) (size b which) (length (listed_at b which))
 
 -- why a file is not rewritten: its first fault, or no room for its block, which has this size
-abbrev pub IsNotRewritten : List ℕ → Rule → Defect → Type 0
+abbrev pub IsNotRewritten : List ℕ → Rules → Defect → Type 0
 IsNotRewritten b which NoFrame = ⊥
 IsNotRewritten b which (BadImage fault) = refusal b ≡ Some fault
 IsNotRewritten b which (BadLog line) = ⊥
+IsNotRewritten b which (Differs found) = ⊥
 IsNotRewritten b which (TooLarge n) = ⊥
 IsNotRewritten b which (NoRoom n) = LacksRoom b which n
 
 -- the one output of a file is written, and three lines are printed
-pub record IsRewriting (output b : List ℕ) (which : Rule) (d : Delivery) : Type 0 where
+pub record IsRewriting (output b : List ℕ) (which : Rules) (d : Delivery) : Type 0 where
   pub bytes : List ℕ
   pub rewrites : Rewrites b which bytes
   pub text_is : d.text ≡ sites_text b which
@@ -95,6 +101,7 @@ abbrev pub IsNotTraced : ℕ → List ℕ → List ℕ → Defect → Type 0
 IsNotTraced steps b l NoFrame = ⊥
 IsNotTraced steps b l (BadImage fault) = load_refusal b ≡ Some fault
 IsNotTraced steps b l (BadLog line) = HasBadLine b l line
+IsNotTraced steps b l (Differs found) = ⊥
 IsNotTraced steps b l (TooLarge n) = MapsTooMuch steps b l n
 IsNotTraced steps b l (NoRoom n) = ⊥
 
@@ -114,6 +121,7 @@ abbrev pub IsNotListed : List ℕ → Defect → Type 0
 IsNotListed b NoFrame = ⊥
 IsNotListed b (BadImage fault) = refusal b ≡ Some fault
 IsNotListed b (BadLog line) = ⊥
+IsNotListed b (Differs found) = ⊥
 IsNotListed b (TooLarge n) = ⊥
 IsNotListed b (NoRoom n) = ⊥
 
@@ -128,7 +136,7 @@ pub record IsListing (b : List ℕ) (d : Delivery) : Type 0 where
 -- the one output of a sample is written, and three lines are printed
 pub record IsSampling (number size : ℕ) (output : List ℕ) (d : Delivery) : Type 0 where
   pub bytes : List ℕ
-  pub rewrites : Rewrites (sample number size) rule.None bytes
+  pub rewrites : Rewrites (sample number size) (alone rule.None) bytes
   pub text_is : d.text ≡ sample_text (length (sites (sample number size))) (length (sample number size)) (length bytes)
   pub file_is : d.file ≡ Some (record { name = output; bytes = bytes })
 
@@ -139,6 +147,7 @@ abbrev pub IsNotExtracted : List ℕ → Defect → Type 0
 IsNotExtracted x NoFrame = frame x ≡ None
 IsNotExtracted x (BadImage fault) = ⊥
 IsNotExtracted x (BadLog line) = ⊥
+IsNotExtracted x (Differs found) = ⊥
 IsNotExtracted x (TooLarge n) = ⊥
 IsNotExtracted x (NoRoom n) = ⊥
 
@@ -151,20 +160,40 @@ pub record IsExtracting (output x : List ℕ) (d : Delivery) : Type 0 where
 
 -- ---- upgrade
 
--- why a file is not written anew: it has no frame; or its input has this first fault, or no room for the block of the frame's rule,
+-- why a file is not written anew: it has no frame; or its input has this first fault, or no room for the block of the frame's rules,
 -- which has this size
 abbrev pub IsNotUpgraded : List ℕ → Defect → Type 0
 IsNotUpgraded x NoFrame = frame x ≡ None
 IsNotUpgraded x (BadImage fault) = (f : Frame) × (frame x ≡ Some f) × (refusal (frame_input f) ≡ Some fault)
 IsNotUpgraded x (BadLog line) = ⊥
+IsNotUpgraded x (Differs found) = ⊥
 IsNotUpgraded x (TooLarge n) = ⊥
-IsNotUpgraded x (NoRoom n) = (f : Frame) × (frame x ≡ Some f) × LacksRoom (frame_input f) (rule_back f) n
+IsNotUpgraded x (NoRoom n) = (f : Frame) × (frame x ≡ Some f) × LacksRoom (frame_input f) (rules_back f) n
 
--- the one output of the frame's input by the frame's rule is written, and three lines are printed
+-- the one output of the frame's input by the frame's rules is written, and three lines are printed
 pub record IsUpgrading (output x : List ℕ) (d : Delivery) : Type 0 where
   pub old : Frame
   pub framed : frame x ≡ Some old
-  pub rewriting : IsRewriting output (frame_input old) (rule_back old) d
+  pub rewriting : IsRewriting output (frame_input old) (rules_back old) d
+
+-- ---- check
+
+-- why a file is not found to be a rewriting of an image: the image has this first fault; or it has none, and the file no frame; or
+-- the file has a frame, and this is the first part that differs
+abbrev pub IsNotAlike : List ℕ → List ℕ → Defect → Type 0
+IsNotAlike b x NoFrame = LacksFrame b x
+IsNotAlike b x (BadImage fault) = refusal b ≡ Some fault
+IsNotAlike b x (BadLog line) = ⊥
+IsNotAlike b x (Differs found) = Compares b x (Some found)
+IsNotAlike b x (TooLarge n) = ⊥
+IsNotAlike b x (NoRoom n) = ⊥
+
+-- nothing differs, so the file simulates the image, whoever made it; the number of the image's sites is printed
+pub record IsChecking (b x : List ℕ) (d : Delivery) : Type 0 where
+  pub alike : Compares b x None
+  pub simulates : Simulates b x
+  pub text_is : d.text ≡ count_line (codes "checked") (length (sites_in (code_in b) (runs_of b)))
+  pub file_is : d.file ≡ None
 
 -- ---- all commands
 
@@ -175,6 +204,7 @@ Lacks (ToTrace steps) (b ∷ l ∷ []) why = IsNotTraced steps b l why
 Lacks ToList (b ∷ []) why = IsNotListed b why
 Lacks (ToExtract output) (x ∷ []) why = IsNotExtracted x why
 Lacks (ToUpgrade output) (x ∷ []) why = IsNotUpgraded x why
+Lacks ToCheck (b ∷ x ∷ []) why = IsNotAlike b x why
 Lacks work inputs why = ⊥
 
 -- what is delivered over the bytes of the files that are read
@@ -185,4 +215,5 @@ Delivers ToList (b ∷ []) d = IsListing b d
 Delivers (ToSample number size output) [] d = IsSampling number size output d
 Delivers (ToExtract output) (x ∷ []) d = IsExtracting output x d
 Delivers (ToUpgrade output) (x ∷ []) d = IsUpgrading output x d
+Delivers ToCheck (b ∷ x ∷ []) d = IsChecking b x d
 Delivers work inputs d = ⊥

@@ -4,6 +4,8 @@ use Rattle.elf32_read.specs.declared.reader.ReadImage.{ReadImage}
 use Rattle.elf32_read.specs.declared.reader.ReadImage.TheVariants as reading
 use Rattle.mv_rewrite.specs.declared.rewriting.RewriteFault.{RewriteFault}
 use Rattle.mv_rewrite.specs.declared.rewriting.RewriteFault.TheVariants as rewriting
+use Rattle.pair_check.specs.declared.checking.CheckFault.{CheckFault}
+use Rattle.pair_check.specs.declared.checking.CheckFault.TheVariants as checking
 use Rattle.syscall_log.specs.declared.fault.LogFault.{LogFault}
 use Rattle.syscall_log.specs.declared.fault.LogFault.TheVariants as log
 use Rattle.trace_run.specs.declared.tracing.TraceFault.{TraceFault}
@@ -35,6 +37,12 @@ abbrev pub not_rewritten : RewriteFault → Objection
 not_rewritten (rewriting.Image fault) = objection.Lacking (defect.BadImage fault)
 not_rewritten (rewriting.NoRoom n) = objection.Lacking (defect.NoRoom n)
 not_rewritten rewriting.NoMemory = objection.NoMemory
+
+abbrev pub not_alike : CheckFault → Objection
+not_alike (checking.Image fault) = objection.Lacking (defect.BadImage fault)
+not_alike checking.NoFrame = objection.Lacking defect.NoFrame
+not_alike (checking.Differs found) = objection.Lacking (defect.Differs found)
+not_alike checking.NoMemory = objection.NoMemory
 
 -- a defect is a refusal
 abbrev pub failure_of : Objection → Failure

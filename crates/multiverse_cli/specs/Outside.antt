@@ -1,5 +1,5 @@
 -- What a run of the program did to the store and to the sink.
-use Rattle.std.specs.Prelude.{◌≡◌, ◌≢◌, ℕ, ◌++◌, ◌⊎◌, Bool, IsTrue, List, Option, Some, IsSomeAnd}
+use Rattle.std.specs.Prelude.{◌≡◌, ◌≢◌, ◌<◌, ℕ, ◌++◌, ◌⊎◌, Bool, IsTrue, List, Option, Some, IsSomeAnd}
 use Rattle.mv_base.specs.Appended.{AppendsPrefix}
 use Rattle.mv_base.specs.Faults.{Rose}
 use Rattle.mv_base.specs.declared.store.Store as store
@@ -58,6 +58,26 @@ pub record IsReadFault (s : Stored) (name : List ℕ) : Type 0 where
 pub record IsWriteFault (s : Stored) (name : List ℕ) : Type 0 where
   pub rose : Rose s.writes_before s.writes_after
   pub failed : s.failed ≡ name
+
+-- the count of read faults went up; that of write faults did; the sink's count did
+abbrev pub HasReadFault : Stored → Type 0
+HasReadFault s = s.reads_before < s.reads_after
+
+abbrev pub HasWriteFault : Stored → Type 0
+HasWriteFault s = s.writes_before < s.writes_after
+
+abbrev pub HasSinkFault : Printed → Type 0
+HasSinkFault k = k.faults_before < k.faults_after
+
+-- the count of read faults is as it was; that of write faults is; the sink's is
+abbrev pub KeepsReads : Stored → Type 0
+KeepsReads s = s.reads_after ≡ s.reads_before
+
+abbrev pub KeepsWrites : Stored → Type 0
+KeepsWrites s = s.writes_after ≡ s.writes_before
+
+abbrev pub KeepsPrints : Printed → Type 0
+KeepsPrints k = k.faults_after ≡ k.faults_before
 
 -- what is known of a name's bytes at entry, where the store tells
 abbrev pub HeldAs : Stored → List ℕ → (List ℕ → Type 0) → Type 0

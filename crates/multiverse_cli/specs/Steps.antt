@@ -12,7 +12,7 @@ use Rattle.multiverse_cli.specs.declared.failure.Failure.{Failure}
 use Rattle.multiverse_cli.specs.declared.failure.Failure.TheVariants as failure
 use Rattle.multiverse_cli.specs.declared.listing.Printout.{Printout}
 use Rattle.multiverse_cli.specs.Listing.{printout_text}
-use Rattle.multiverse_cli.specs.Outside.{Stored, Printed, IsReadFault, IsWriteFault, IsSinkFault, KeepsAll, Held, Holds, HeldAs, SaysAll, SaysPart, Says}
+use Rattle.multiverse_cli.specs.Outside.{Stored, Printed, IsReadFault, IsWriteFault, IsSinkFault, KeepsAll, KeepsReads, KeepsWrites, KeepsPrints, Held, Holds, HeldAs, SaysAll, SaysPart, Says}
 use Rattle.multiverse_cli.specs.Words.{Asked}
 use Rattle.multiverse_cli.specs.Commands.{Delivery}
 use Rattle.multiverse_cli.specs.Texts.{message_of, memory_message, status_of}
@@ -50,6 +50,25 @@ abbrev pub Attempts : Result Printout Failure → Option Asked → Stored → Ty
 Attempts r None s = CarriesNothing r s
 Attempts r (Some a) s = Carries r a s
 
+-- which counts of the store a failure leaves: a refusal that tells of a fault leaves the other count, want of memory may
+-- have come behind a fault, and any other leaves both
+abbrev pub FailureKeeps : Failure → Stored → Type 0
+FailureKeeps (failure.Refused refusal.Usage) s = KeepsReads s × KeepsWrites s
+FailureKeeps (failure.Refused (refusal.ReadFault name)) s = KeepsWrites s
+FailureKeeps (failure.Refused (refusal.TooLarge name)) s = KeepsReads s × KeepsWrites s
+FailureKeeps (failure.Refused (refusal.Lacking why)) s = KeepsReads s × KeepsWrites s
+FailureKeeps (failure.Refused (refusal.WriteFault name)) s = KeepsReads s
+FailureKeeps failure.NoMemory s = Unit {0}
+
+-- the same of an outcome; one that isn't a failure leaves both counts
+abbrev pub KeepsCounts : {A : Type 0} → Result A Failure → Stored → Type 0
+KeepsCounts (Ok _) s = KeepsReads s × KeepsWrites s
+KeepsCounts (Err f) s = FailureKeeps f s
+
+-- the sink's count is as it was where the command is done
+abbrev pub KeepsIfDone : Status → Printed → Type 0
+KeepsIfDone answer k = answer ≡ status.Done → KeepsPrints k
+
 -- a piece of text was put if it was full, and what of it is left; where that failed, a part of it was put
 abbrev pub PutsFull : {A E : Type 0} → Result A E → List ℕ → List ℕ → List ℕ → List ℕ → Type 0
 PutsFull (Ok _) piece left before after = (done : List ℕ) × (after ≡ before ++ done) × (piece ≡ done ++ left)
@@ -61,6 +80,8 @@ PrintsText status.Done text k = SaysAll k text
 PrintsText status.Usage text k = ⊥
 PrintsText status.ReadFault text k = ⊥
 PrintsText status.TooLarge text k = ⊥
+PrintsText status.BadSource text k = ⊥
+PrintsText status.Differs text k = ⊥
 PrintsText status.NoFrame text k = ⊥
 PrintsText status.BadImage text k = ⊥
 PrintsText status.BadLog text k = ⊥

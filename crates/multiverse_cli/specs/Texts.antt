@@ -5,6 +5,9 @@ use Rattle.mv_base.specs.declared.status.Status.{Status}
 use Rattle.mv_base.specs.declared.status.Status.TheVariants as status
 use Rattle.elf32_read.specs.declared.fault.ImageFault.{ImageFault}
 use Rattle.elf32_read.specs.declared.fault.ImageFault.TheVariants.{ShortHeader, NotElf, NotElf32Little, NotI386, NotExecutable, BadVersion, BadSizes, HeaderCount, HeadersOutside, Interpreter, Dynamic, FileRange, MemorySmaller, AddressRange, NoPermission, WritableCode, NotCongruent, SharedPage, NoLoad, CodeTooLarge, HeadersFull}
+use Rattle.pair_check.specs.declared.differs.Differs.{Differs}
+use Rattle.pair_check.specs.declared.differs.Part.{Part}
+use Rattle.pair_check.specs.declared.differs.Part.TheVariants as part
 use Rattle.multiverse_cli.specs.declared.refusal.Defect.{Defect}
 use Rattle.multiverse_cli.specs.declared.refusal.Defect.TheVariants as defect
 use Rattle.multiverse_cli.specs.declared.refusal.Refusal.{Refusal}
@@ -107,6 +110,21 @@ image_message fault = line (codes "multiverse: bad image: " ++ fault_name fault 
 abbrev pub log_message : ℕ → List ℕ
 log_message n = line (codes "multiverse: bad log: line " ++ decimal n)
 
+-- the name of a part in which a file can differ
+abbrev pub part_name : Part → List ℕ
+part_name part.Room = codes "room"
+part_name part.Runs = codes "runs"
+part_name part.File = codes "file"
+part_name part.Counted = codes "counted"
+part_name part.Stub = codes "stub"
+part_name part.Entry = codes "entry"
+part_name part.Piece = codes "piece"
+
+-- the message that a file is no rewriting of an image: the part that differs first, where, what is wanted and what is found
+abbrev pub differs_message : Differs → List ℕ
+differs_message d =
+    line (codes "multiverse: differs: " ++ part_name d.part ++ codes " " ++ hex8 d.at ++ codes " " ++ hex8 d.kept ++ codes " " ++ hex8 d.found)
+
 -- the message that so many bytes would be mapped
 abbrev pub mapped_message : ℕ → List ℕ
 mapped_message n = line (codes "multiverse: too large: mapped " ++ decimal n)
@@ -128,6 +146,7 @@ abbrev pub defect_message : Defect → List ℕ
 defect_message defect.NoFrame = frame_message
 defect_message (defect.BadImage fault) = image_message fault
 defect_message (defect.BadLog n) = log_message n
+defect_message (defect.Differs d) = differs_message d
 defect_message (defect.TooLarge n) = mapped_message n
 defect_message (defect.NoRoom n) = room_message n
 
@@ -135,6 +154,7 @@ abbrev pub defect_status : Defect → Status
 defect_status defect.NoFrame = status.NoFrame
 defect_status (defect.BadImage fault) = status.BadImage
 defect_status (defect.BadLog n) = status.BadLog
+defect_status (defect.Differs d) = status.Differs
 defect_status (defect.TooLarge n) = status.TooLarge
 defect_status (defect.NoRoom n) = status.NoRoom
 

@@ -9,22 +9,28 @@ use Rattle.std.specs.Borrow.{Bor}
 use Rattle.std.specs.declared.alloc.Global.{Global}
 use Rattle.counter_hooks.specs.RuleTexts.{rule_of}
 use Rattle.counter_hooks.specs.declared.rules.Rule.{Rule}
+use Rattle.edge_hooks.specs.RuleTexts.{edge_rule_of}
+use Rattle.edge_hooks.specs.declared.rules.EdgeRule.{EdgeRule}
+use Rattle.edge_hooks.specs.declared.rules.EdgeRule.TheVariants as edges
+use Rattle.image_layout.specs.Rules.{Rules, both, alone}
+use Rattle.multiverse_cli.specs.declared.words.RuleTexts.{RuleTexts}
 use Rattle.counter_hooks.specs.declared.rules.Rule.TheVariants as rule
 use Rattle.multiverse_cli.specs.declared.words.Command.{Command}
 use Rattle.multiverse_cli.specs.declared.words.Task.{Task}
-use Rattle.multiverse_cli.specs.declared.words.Task.TheVariants.{Rewrite, Trace, Listing, Sample, Extract, Upgrade}
+use Rattle.multiverse_cli.specs.declared.words.Task.TheVariants.{Rewrite, Trace, Listing, Sample, Extract, Upgrade, Check}
 
--- what is done with the files that a command reads: the rewritten image, with a counter at each site that the rule picks,
+-- what is done with the files that a command reads: the rewritten image, with the counters that the rules pick,
 -- is written to this name; or the image is run on the log for at most so many steps; or its sites are listed; or no file is read, and the rewritten sample of a number,
 -- with so many bytes of code, is written to this name; or the input of a rewritten file is written to this name, or the output of that
--- input by the rule that the file has
+-- input by the rules that the file has; or an image and a file are looked at, whether the file is a rewriting of the image
 pub data Work : Type 0 where
-  ToRewrite : (which : Rule) (output : List ℕ) → Work
+  ToRewrite : (which : Rules) (output : List ℕ) → Work
   ToTrace : (steps : ℕ) → Work
   ToList : Work
   ToSample : (number size : ℕ) (output : List ℕ) → Work
   ToExtract : (output : List ℕ) → Work
   ToUpgrade : (output : List ℕ) → Work
+  ToCheck : Work
 
 -- what the program is asked: which files it reads, by their names in order, and what is done with them
 pub record Asked : Type 0 where
@@ -39,6 +45,7 @@ input_count ToList = 1
 input_count (ToSample number size output) = 0
 input_count (ToExtract output) = 1
 input_count (ToUpgrade output) = 1
+input_count ToCheck = 2
 
 -- the name that is written
 abbrev pub output_of : Work → Option (List ℕ)
@@ -48,6 +55,7 @@ output_of ToList = None
 output_of (ToSample number size output) = Some output
 output_of (ToExtract output) = Some output
 output_of (ToUpgrade output) = Some output
+output_of ToCheck = None
 
 -- how many bytes of code a sample has at most: 1 MiB
 abbrev pub largest_sample : ℕ
@@ -61,6 +69,7 @@ HasSize ToList = Unit {0}
 HasSize (ToSample number size output) = (1 ≤ size) × (size ≤ largest_sample)
 HasSize (ToExtract output) = Unit {0}
 HasSize (ToUpgrade output) = Unit {0}
+HasSize ToCheck = Unit {0}
 
 -- the bytes of each word
 abbrev pub texts : List (String Global) → List (List ℕ)
@@ -85,22 +94,40 @@ number_within low high word =
 unfoldable pub option_rule : List ℕ → Option Rule
 option_rule word = if bytes_eq (take 8 word) (codes "--count=") then rule_of (drop 8 word) else None
 
--- `rewrite` and two names: no site is counted
+-- the edge rule of a word that is `--edges=` and the text of an edge rule
+unfoldable pub option_edges : List ℕ → Option EdgeRule
+option_edges word = if bytes_eq (take 8 word) (codes "--edges=") then edge_rule_of (drop 8 word) else None
+
+-- the first of two rules that are there
+abbrev pub or_rules : Option Rules → Option Rules → Option Rules
+or_rules (Some rules) other = Some rules
+or_rules None other = other
+
+-- the rules of one word, which has a rule or an edge rule, and of two, which have a rule and an edge rule
+unfoldable pub one_option : List ℕ → Option Rules
+one_option word = or_rules (option_map alone (option_rule word)) (option_map (both rule.None) (option_edges word))
+
+unfoldable pub two_options : List ℕ → List ℕ → Option Rules
+two_options count ways = option_and_then (λ which. option_map (both which) (option_edges ways)) (option_rule count)
+
+-- `rewrite` and two names: nothing is counted
 abbrev pub rewrite_words : List (List ℕ) → Option Asked
 rewrite_words (command ∷ input ∷ output ∷ []) =
     if bytes_eq command (codes "rewrite") && is_name input && is_name output
-    then Some (record { reads = input ∷ []; work = ToRewrite rule.None output }) else None
+    then Some (record { reads = input ∷ []; work = ToRewrite (alone rule.None) output }) else None
 rewrite_words _ = None
 
--- the same, and behind it the word of a rule
-unfoldable pub counting_asked : List ℕ → List (List ℕ) → List ℕ → List ℕ → Option Asked
-counting_asked command reads output option =
+-- the same, and behind it the words of rules
+unfoldable pub counting_asked : List ℕ → List (List ℕ) → List ℕ → Option Rules → Option Asked
+counting_asked command reads output rules =
     if bytes_eq command (codes "rewrite") && is_name output
-    then option_map (λ which. record { reads = reads; work = ToRewrite which output }) (option_rule option) else None
+    then option_map (λ which. record { reads = reads; work = ToRewrite which output }) rules else None
 
 abbrev pub counting_words : List (List ℕ) → Option Asked
 counting_words (command ∷ input ∷ output ∷ option ∷ []) =
-    if is_name input then counting_asked command (input ∷ []) output option else None
+    if is_name input then counting_asked command (input ∷ []) output (one_option option) else None
+counting_words (command ∷ input ∷ output ∷ count ∷ ways ∷ []) =
+    if is_name input then counting_asked command (input ∷ []) output (two_options count ways) else None
 counting_words _ = None
 
 -- `trace`, two names and a number
@@ -142,6 +169,13 @@ upgrade_words (command ∷ input ∷ output ∷ []) =
     then Some (record { reads = input ∷ []; work = ToUpgrade output }) else None
 upgrade_words _ = None
 
+-- `check` and two names
+abbrev pub check_words : List (List ℕ) → Option Asked
+check_words (command ∷ input ∷ output ∷ []) =
+    if bytes_eq command (codes "check") && is_name input && is_name output
+    then Some (record { reads = input ∷ output ∷ []; work = ToCheck }) else None
+check_words _ = None
+
 -- the first of two commands that is there
 abbrev pub or_asked : Option Asked → Option Asked → Option Asked
 or_asked (Some a) other = Some a
@@ -154,40 +188,60 @@ image_words words =
 
 -- a command over what a rewrite wrote
 abbrev pub frame_words : List (List ℕ) → Option Asked
-frame_words words = or_asked (extract_words words) (upgrade_words words)
+frame_words words = or_asked (or_asked (extract_words words) (upgrade_words words)) (check_words words)
 
 -- what the words ask for; none where they are no command
 abbrev pub asked_of : List (List ℕ) → Option Asked
 asked_of words = or_asked (image_words words) (frame_words words)
 
--- the same of a command that was read from words; the rule of a text that is one
+-- the same of a command that was read from words; the rules of texts that are some
 abbrev pub rule_or_none : List ℕ → Rule
 rule_or_none text = unwrap_or (rule_of text) rule.None
 
-abbrev pub named : Option (Bor (List ℕ)) → Rule
-named None = rule.None
-named (Some text) = rule_or_none text.now
+abbrev pub edges_or_none : List ℕ → EdgeRule
+edges_or_none text = unwrap_or (edge_rule_of text) edges.None
+
+abbrev pub named_rule : Option (Bor (List ℕ)) → Rule
+named_rule None = rule.None
+named_rule (Some text) = rule_or_none text.now
+
+abbrev pub named_edges : Option (Bor (List ℕ)) → EdgeRule
+named_edges None = edges.None
+named_edges (Some text) = edges_or_none text.now
+
+abbrev pub named : RuleTexts → Rules
+named texts = both (named_rule texts.all) (named_edges texts.ways)
 
 abbrev pub work_of : Task → Work
-work_of (Rewrite output text) = ToRewrite (named text) output.now
+work_of (Rewrite output rules) = ToRewrite (named rules) output.now
 work_of (Trace steps) = ToTrace steps
 work_of Listing = ToList
 work_of (Sample number size output) = ToSample number size output.now
 work_of (Extract output) = ToExtract output.now
 work_of (Upgrade output) = ToUpgrade output.now
+work_of Check = ToCheck
 
--- a text that a rewriting task has for a rule is one
-abbrev pub IsRuled : Option (Bor (List ℕ)) → Type 0
-IsRuled None = Unit {0}
-IsRuled (Some text) = IsSome (rule_of text.now)
+-- the texts that a rewriting task has for rules are some
+abbrev pub IsRule : Option (Bor (List ℕ)) → Type 0
+IsRule None = Unit {0}
+IsRule (Some text) = IsSome (rule_of text.now)
+
+abbrev pub IsEdgeRule : Option (Bor (List ℕ)) → Type 0
+IsEdgeRule None = Unit {0}
+IsEdgeRule (Some text) = IsSome (edge_rule_of text.now)
+
+pub record IsRuled (texts : RuleTexts) : Type 0 where
+  pub all : IsRule texts.all
+  pub ways : IsEdgeRule texts.ways
 
 abbrev pub HasRule : Task → Type 0
-HasRule (Rewrite output text) = IsRuled text
+HasRule (Rewrite output rules) = IsRuled rules
 HasRule (Trace steps) = Unit {0}
 HasRule Listing = Unit {0}
 HasRule (Sample number size output) = Unit {0}
 HasRule (Extract output) = Unit {0}
 HasRule (Upgrade output) = Unit {0}
+HasRule Check = Unit {0}
 
 abbrev pub asked : Command → Asked
 asked c = record { reads = texts c.reads.now; work = work_of c.task }

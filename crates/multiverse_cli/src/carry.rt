@@ -2,7 +2,7 @@
 
 ghost use Rattle.std.specs.Prelude.{◌≡◌, ◌≢◌, ◌≤◌, ℕ, List, length};
 ghost use Rattle.multiverse_cli.specs.Outside.{KeepsOthers, stored};
-ghost use Rattle.multiverse_cli.specs.Steps.{Attempts, Carries, ReadsFile, ReadsFiles, WritesFile};
+ghost use Rattle.multiverse_cli.specs.Steps.{Attempts, Carries, KeepsCounts, ReadsFile, ReadsFiles, WritesFile};
 ghost use Rattle.multiverse_cli.specs.Words.{HasRule, HasSize, asked, asked_of, input_count, texts, work_of};
 
 use crate::failure::Failure;
@@ -20,7 +20,9 @@ pub fn attempt<'a, S: Store>(
     words: &'a [String],
     store: &mut S,
 ) -> Result<Printout, Failure<'a>>
-    ensures { Attempts result (asked_of (texts words.now)) (stored S.Store store.old store.new) }
+    ensures attempts { Attempts result (asked_of (texts words.now))
+        (stored S.Store store.old store.new) }
+    ensures counts { KeepsCounts result (stored S.Store store.old store.new) }
 {
     match read_command(words) {
         None => Err(Failure::Refused(Refusal::Usage)),
@@ -38,7 +40,8 @@ fn carry_out<'a, S: Store>(
     requires inputs { length command.now.reads.now ≡ input_count (work_of command.now.task) }
     requires sized { HasSize (work_of command.now.task) }
     requires ruled { HasRule command.now.task }
-    ensures { Carries result (asked command.now) (stored S.Store store.old store.new) }
+    ensures carries { Carries result (asked command.now) (stored S.Store store.old store.new) }
+    ensures counts { KeepsCounts result (stored S.Store store.old store.new) }
 {
     let files = read_files(alloc, command.reads, store)?;
     let delivery = verdict(alloc, &command.task, files.as_slice())?;
@@ -55,6 +58,7 @@ fn read_files<'a, S: Store>(
     store: &mut S,
 ) -> Result<Vec<Bytes>, Failure<'a>>
     ensures reads { ReadsFiles result (texts names.now) (stored S.Store store.old store.new) }
+    ensures counts { KeepsCounts result (stored S.Store store.old store.new) }
     ensures holds_same { S.holds store.new ≡ S.holds store.old }
     ensures never_falls { S.read_faults store.old ≤ S.read_faults store.new }
     ensures write_faults_same { S.write_faults store.new ≡ S.write_faults store.old }
@@ -81,6 +85,7 @@ fn read_file<'a, S: Store>(
     store: &mut S,
 ) -> Result<Option<Bytes>, Failure<'a>>
     ensures reads { ReadsFile result name.now (stored S.Store store.old store.new) }
+    ensures counts { KeepsCounts result (stored S.Store store.old store.new) }
     ensures holds_same { S.holds store.new ≡ S.holds store.old }
     ensures never_falls { S.read_faults store.old ≤ S.read_faults store.new }
     ensures write_faults_same { S.write_faults store.new ≡ S.write_faults store.old }
@@ -98,6 +103,7 @@ fn read_file<'a, S: Store>(
 /// Makes a file hold the bytes.
 fn write_file<'a, S: Store>(name: &'a str, bytes: &[u8], store: &mut S) -> Result<(), Failure<'a>>
     ensures writes { WritesFile result name.now bytes.now (stored S.Store store.old store.new) }
+    ensures counts { KeepsCounts result (stored S.Store store.old store.new) }
     ensures others_same { KeepsOthers (stored S.Store store.old store.new) name.now }
 {
     match store.put(name, bytes) {

@@ -4,6 +4,7 @@ use crate::refusal::{Defect, Refusal};
 use elf32_read::{ImageFault, ReadImage};
 use mv_base::NoMemory;
 use mv_rewrite::RewriteFault;
+use pair_check::CheckFault;
 use std::alloc::AllocFailed;
 use syscall_log::LogFault;
 use trace_run::TraceFault;
@@ -92,6 +93,22 @@ impl From<RewriteFault> for Objection {
             RewriteFault::Image(fault) => Objection::Lacking(Defect::BadImage(fault)),
             RewriteFault::NoRoom(size) => Objection::Lacking(Defect::NoRoom(size)),
             RewriteFault::NoMemory => Objection::NoMemory,
+        }
+    }
+}
+
+impl From<CheckFault> for Objection {
+    ghost use Rattle.std.specs.Prelude.{◌≡◌};
+    ghost use Rattle.multiverse_cli.specs.Failures.{not_alike};
+
+    ghost from_gives = { λ fault f. f ≡ not_alike fault };
+
+    fn from(fault: CheckFault) -> Self {
+        match fault {
+            CheckFault::Image(fault) => Objection::Lacking(Defect::BadImage(fault)),
+            CheckFault::NoFrame => Objection::Lacking(Defect::NoFrame),
+            CheckFault::Differs(found) => Objection::Lacking(Defect::Differs(found)),
+            CheckFault::NoMemory => Objection::NoMemory,
         }
     }
 }

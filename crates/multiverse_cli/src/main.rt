@@ -21,16 +21,8 @@ ghost use Rattle.std.specs.Prelude.{◌≡◌};
 ghost use Rattle.multiverse_cli.specs.Wordless.{wordless_code as wordless_code_of};
 
 mod carry;
-#[cfg(test)]
-mod counted_rows;
 mod failure;
-#[cfg(test)]
-mod hostile_rows;
-#[cfg(test)]
-mod inner_rows;
 mod listing;
-#[cfg(test)]
-mod listings;
 mod refusal;
 mod report;
 mod run;
@@ -38,10 +30,6 @@ mod sample;
 #[cfg(test)]
 mod tests;
 mod texts;
-#[cfg(test)]
-mod trace_rows;
-#[cfg(test)]
-mod upgrade_rows;
 mod verdict;
 mod words;
 

@@ -5,6 +5,7 @@ ghost use Rattle.multiverse_cli.specs.Texts.{defect_status, status_of};
 
 use elf32_read::ImageFault;
 use mv_base::Status;
+use pair_check::Differs;
 
 /// Why nothing comes of the files that a command reads, in the order in which the reasons are looked for.
 #[derive(Clone, Copy, Drop)]
@@ -15,6 +16,8 @@ pub enum Defect {
     BadImage(ImageFault),
     /// The log's first line that no log has, counted from 1.
     BadLog(u64),
+    /// The output is no rewriting of the image: what differs first.
+    Differs(Differs),
     /// So many bytes of pages would be mapped while the image runs, which are more than are allowed.
     TooLarge(u64),
     /// The image's addresses have no room for the added block, which has this many bytes.
@@ -30,6 +33,7 @@ impl Defect {
             Defect::NoFrame => Status::NoFrame,
             Defect::BadImage(_) => Status::BadImage,
             Defect::BadLog(_) => Status::BadLog,
+            Defect::Differs(_) => Status::Differs,
             Defect::TooLarge(_) => Status::TooLarge,
             Defect::NoRoom(_) => Status::NoRoom,
         }

@@ -7,7 +7,7 @@ ghost use Rattle.mv_base.specs.Faults.{SinkCounts};
 ghost use Rattle.mv_base.specs.Printing.{Prints};
 ghost use Rattle.multiverse_cli.specs.Listing.{printout_text, site_lines};
 ghost use Rattle.multiverse_cli.specs.Outside.{SaysPart, printed};
-ghost use Rattle.multiverse_cli.specs.Steps.{PrintsRefusal, PrintsText, PutsFull, Reports};
+ghost use Rattle.multiverse_cli.specs.Steps.{KeepsIfDone, PrintsRefusal, PrintsText, PutsFull, Reports};
 ghost use Rattle.multiverse_cli.specs.Texts.{memory_message};
 
 use crate::failure::Failure;
@@ -24,7 +24,8 @@ const PIECE: usize = 16_384;
 
 /// Prints the text of a command that is done, or the message of one that isn't, and gives the answer.
 pub fn report<K: Sink>(alloc: Global, outcome: Result<Printout, Failure<'_>>, out: &mut K) -> Status
-    ensures { Reports result outcome.entry (printed K.Sink out.old out.new) }
+    ensures reports { Reports result outcome.entry (printed K.Sink out.old out.new) }
+    ensures counts { KeepsIfDone result (printed K.Sink out.old out.new) }
 {
     match outcome {
         Ok(printout) => print(alloc, &printout, out),
@@ -35,7 +36,9 @@ pub fn report<K: Sink>(alloc: Global, outcome: Result<Printout, Failure<'_>>, ou
 
 /// Prints what a command that is done prints.
 fn print<K: Sink>(alloc: Global, printout: &Printout, out: &mut K) -> Status
-    ensures { PrintsText result (printout_text printout.now) (printed K.Sink out.old out.new) }
+    ensures prints { PrintsText result (printout_text printout.now)
+        (printed K.Sink out.old out.new) }
+    ensures counts { KeepsIfDone result (printed K.Sink out.old out.new) }
 {
     match put(alloc, printout, out) {
         Ok(()) => Status::Done,

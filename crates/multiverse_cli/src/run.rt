@@ -1,6 +1,6 @@
 //! The whole program over any store and any sink.
 
-ghost use Rattle.multiverse_cli.specs.Answers.{Comes, DeliversAll, FirstDue, Leaves, Prints};
+ghost use Rattle.multiverse_cli.specs.Answers.{Comes, DeliversAll, FirstDue, IsOwed, Leaves, Prints};
 ghost use Rattle.multiverse_cli.specs.Outside.{printed, stored};
 ghost use Rattle.multiverse_cli.specs.Words.{asked_of, texts};
 
@@ -37,6 +37,9 @@ pub fn run<S: Store, K: Sink>(alloc: Global, words: &[String], store: &mut S, ou
     // Which answer has to come: the first that is due, and Done where none is; want of memory aside.
     ensures first_due { FirstDue result (asked_of (texts words.now))
         (stored S.Store store.old store.new) (printed K.Sink out.old out.new) }
+    // Which answer a fault of the outside has, by the counts alone.
+    ensures owed { IsOwed result (stored S.Store store.old store.new)
+        (printed K.Sink out.old out.new) }
     // What each answer leaves in the store.
     ensures leaves { Leaves result (asked_of (texts words.now))
         (stored S.Store store.old store.new) }

@@ -1,12 +1,14 @@
 //! The texts that the program prints. They are this project's own; each line ends with a line feed.
 
 ghost use Rattle.std.specs.Prelude.{◌≡◌, ◌++◌, IfOk, OnOk, codes, decimal};
-ghost use Rattle.multiverse_cli.specs.Texts.{added_line, count_line, defect_message, fault_name as fault_name_of, fault_place, image_message, line, memory_message, message_of, rewritten_text as rewritten_text_of, sample_text as sample_text_of};
+ghost use Rattle.mv_base.specs.Text.{hex8};
+ghost use Rattle.multiverse_cli.specs.Texts.{added_line, count_line, defect_message, differs_message, fault_name as fault_name_of, fault_place, image_message, line, memory_message, message_of, part_name as part_name_of, rewritten_text as rewritten_text_of, sample_text as sample_text_of};
 
 use crate::refusal::{Defect, Refusal};
 use elf32_read::ImageFault;
 use mv_base::{NoMemory, put_decimal, put_hex8};
 use mv_rewrite::Rewritten;
+use pair_check::{Differs, Part};
 use std::alloc::Global;
 
 /// The message that memory ran out. It takes no memory.
@@ -52,6 +54,15 @@ pub fn input_text(alloc: Global, input: usize) -> Result<Vec<u8>, NoMemory>
 {
     let mut text = Vec::new(alloc);
     put_count("input", input as u64, &mut text)?;
+    Ok(text)
+}
+
+/// What is printed when a file was found to be a rewriting of an image: how many sites the image has.
+pub fn checked_text(alloc: Global, sites: u32) -> Result<Vec<u8>, NoMemory>
+    ensures { IfOk result (λ text. text.items ≡ count_line (codes "checked") sites) }
+{
+    let mut text = Vec::new(alloc);
+    put_count("checked", u64::from(sites), &mut text)?;
     Ok(text)
 }
 
@@ -101,8 +112,46 @@ fn defect_line(alloc: Global, defect: &Defect) -> Result<Vec<u8>, NoMemory>
         Defect::NoFrame => name_line(alloc, "multiverse: no frame", "", ""),
         Defect::BadImage(fault) => fault_line(alloc, fault),
         Defect::BadLog(line) => number_line(alloc, "multiverse: bad log: line ", *line),
+        Defect::Differs(found) => differs_line(alloc, found),
         Defect::TooLarge(size) => number_line(alloc, "multiverse: too large: mapped ", *size),
         Defect::NoRoom(size) => number_line(alloc, "multiverse: no room: ", *size),
+    }
+}
+
+/// The line that a file is no rewriting of an image.
+fn differs_line(alloc: Global, found: &Differs) -> Result<Vec<u8>, NoMemory>
+    ensures { IfOk result (λ text. text.items ≡ differs_message found.now) }
+{
+    let mut text = Vec::new(alloc);
+    text.extend_from_slice(b"multiverse: differs: ")?;
+    text.extend_from_slice(part_name(found.part).as_bytes())?;
+    put_word(found.at, &mut text)?;
+    put_word(found.kept, &mut text)?;
+    put_word(found.found, &mut text)?;
+    text.push(b'\n')?;
+    Ok(text)
+}
+
+/// Appends a space and a number in eight digits.
+fn put_word(n: u32, to: &mut Vec<u8>) -> Result<(), NoMemory>
+    ensures { OnOk result (to.new.items ≡ to.old.items ++ (codes " " ++ hex8 n)) }
+{
+    to.push(b' ')?;
+    put_hex8(n, to)
+}
+
+/// The name of a part in which a file can differ.
+fn part_name(part: Part) -> &'static str
+    ensures { result.now ≡ part_name_of part }
+{
+    match part {
+        Part::Room => "room",
+        Part::Runs => "runs",
+        Part::File => "file",
+        Part::Counted => "counted",
+        Part::Stub => "stub",
+        Part::Entry => "entry",
+        Part::Piece => "piece",
     }
 }
 

@@ -3,26 +3,30 @@
 
 ghost use Rattle.std.specs.Prelude.{◌≡◌, ◌≤◌, length, IfOk};
 ghost use Rattle.counter_hooks.specs.Rules.{IsAscending, Tells, picked as is_picked};
+ghost use Rattle.edge_hooks.specs.Rules.{EdgesAscend, edge_picked as is_edge_picked};
 ghost use Rattle.elf32_write.specs.Frame.{Frame};
+ghost use Rattle.image_layout.specs.Rules.{both};
 ghost use Rattle.mv_rewrite.specs.OutputFile.{IsWrittenFor};
 ghost use Rattle.mv_rewrite.specs.Rewriting.{IsRewritten};
 ghost use Rattle.simulation_laws.specs.Stopping.{Simulates};
 ghost use Rattle.multiverse_cli.specs.Answers.{Fits};
-ghost use Rattle.multiverse_cli.specs.Commands.{IsExtracting, IsListing, IsNotExtracted, IsNotListed, IsNotRewritten, IsNotTraced, IsNotUpgraded, IsRewriting, IsSampling, IsTracing, IsUpgrading};
+ghost use Rattle.multiverse_cli.specs.Commands.{IsChecking, IsExtracting, IsListing, IsNotAlike, IsNotExtracted, IsNotListed, IsNotRewritten, IsNotTraced, IsNotUpgraded, IsRewriting, IsSampling, IsTracing, IsUpgrading};
 ghost use Rattle.multiverse_cli.specs.Verdicts.{AllFit, IsVerdict, IsVerdictOf};
-ghost use Rattle.multiverse_cli.specs.Words.{HasRule, HasSize, IsRuled, ToList, ToRewrite, ToSample, ToTrace, input_count, named, work_of};
+ghost use Rattle.multiverse_cli.specs.Words.{HasRule, HasSize, IsEdgeRule, IsRule, IsRuled, ToList, ToRewrite, ToSample, ToTrace, input_count, named, named_edges as edges_of, named_rule as rule_of, work_of};
 
 use crate::failure::Objection;
 use crate::listing::{Listing, Printout};
 use crate::refusal::Defect;
 use crate::sample::{LARGEST, sample};
-use crate::texts::{input_text, rewritten_text, sample_text};
-use crate::words::Task;
+use crate::texts::{checked_text, input_text, rewritten_text, sample_text};
+use crate::words::{RuleTexts, Task};
 use counter_hooks::{Hooks, Question, Rule, picked, read_rule};
+use edge_hooks::{EdgeHooks, EdgeRule, edge_picked, read_edge_rule};
 use elf32_read::{admit, read_image, runs};
 use elf32_write::read_frame;
 use mv_base::{Bytes, NoMemory};
-use mv_rewrite::{RewriteFault, Rewritten, frame_rule, rewrite};
+use mv_rewrite::{RewriteFault, Rewritten, frame_edge_rule, frame_rule, rewrite_edges};
+use pair_check::check;
 use std::alloc::Global;
 use superset::{Site, sites};
 use syscall_log::read_log;
@@ -55,8 +59,8 @@ pub fn verdict<'a>(
     ensures { IsVerdict (work_of task.now) files.now result }
 {
     match (*task, files) {
-        (Task::Rewrite { output, rule }, [image]) => {
-            rewritten(alloc, output, rule, image.as_slice())
+        (Task::Rewrite { output, rules }, [image]) => {
+            rewritten(alloc, output, &rules, image.as_slice())
         }
         (Task::Trace { steps }, [image, log]) => {
             traced(alloc, image.as_slice(), log.as_slice(), steps)
@@ -72,41 +76,47 @@ pub fn verdict<'a>(
         ) => sampled(alloc, number, size, output),
         (Task::Extract { output }, [file]) => extracted(alloc, output, file.as_slice()),
         (Task::Upgrade { output }, [file]) => upgraded(alloc, output, file.as_slice()),
+        (Task::Check, [image, file]) => checked(alloc, image.as_slice(), file.as_slice()),
         _ => unreachable!(),
     }
 }
 
-/// The rewritten image, with a counter at each site that the rule of a text picks, which is written to `output`, and its
-/// numbers.
+/// The rewritten image, with the counters that the rules of texts pick, which is written to `output`, and its numbers.
 fn rewritten<'a>(
     alloc: Global,
     output: &'a str,
-    rule: Option<&str>,
+    rules: &RuleTexts<'_>,
     image: &[u8],
 ) -> Result<Delivery<'a>, Objection>
     requires fits { Fits image.now }
-    requires ruled { IsRuled rule }
-    ensures { IsVerdictOf (IsNotRewritten image.now (named rule.entry))
-        (IsRewriting output.now image.now (named rule.entry)) result }
+    requires ruled { IsRuled rules.now }
+    ensures { IsVerdictOf (IsNotRewritten image.now (named rules.now))
+        (IsRewriting output.now image.now (named rules.now)) result }
 {
-    let counted = named_rule(alloc, rule)?;
-    counting(alloc, output, counted, image)
+    let all = named_rule(alloc, rules.all)?;
+    let ways = named_edges(alloc, rules.ways)?;
+    counting(alloc, output, all, ways, image)
 }
 
-/// The rewritten image, with a counter at each site that the rule picks, which is written to `output`, and its numbers.
+/// The rewritten image, with the counters that the rules pick, which is written to `output`, and its numbers.
 fn counting<'a>(
     alloc: Global,
     output: &'a str,
-    counted: Rule,
+    all: Rule,
+    ways: EdgeRule,
     image: &[u8],
 ) -> Result<Delivery<'a>, Objection>
     requires fits { Fits image.now }
-    requires ascends { IsAscending counted }
-    ensures { IsVerdictOf (IsNotRewritten image.now counted)
-        (IsRewriting output.now image.now counted) result }
+    requires ascends { IsAscending all }
+    requires ways_ascend { EdgesAscend ways }
+    ensures { IsVerdictOf (IsNotRewritten image.now (both all ways))
+        (IsRewriting output.now image.now (both all ways)) result }
 {
-    let asked = counted.copied(alloc)?;
-    let rewritten = rewritten_by(alloc, image, counted, |site: &Site| picked(&asked, site))?;
+    let asked = all.copied(alloc)?;
+    let asked_ways = ways.copied(alloc)?;
+    let counted = |site: &Site| picked(&asked, site);
+    let counted_ways = |site: &Site| edge_picked(&asked_ways, site);
+    let rewritten = rewritten_by(alloc, image, all, ways, counted, counted_ways)?;
     let text = rewritten_text(alloc, &rewritten)?;
     Ok(Delivery {
         text: Printout::Text(text),
@@ -117,21 +127,28 @@ fn counting<'a>(
     })
 }
 
-/// The output of an image by a rule, and by a question that answers by it.
-fn rewritten_by<F: Question + Drop>(
+/// The output of an image by two rules, and by questions that answer by them.
+fn rewritten_by<F: Question + Drop, G: Question + Drop>(
     alloc: Global,
     image: &[u8],
-    rule: Rule,
+    all: Rule,
+    ways: EdgeRule,
     ask: F,
+    ask_ways: G,
 ) -> Result<Rewritten, RewriteFault>
     requires fits { Fits image.now }
-    requires ascends { IsAscending rule }
-    requires tells { Tells (F.answers ask) (is_picked rule) }
-    ensures rewritten { IsRewritten image.now rule result }
+    requires ascends { IsAscending all }
+    requires ways_ascend { EdgesAscend ways }
+    requires tells { Tells (F.answers ask) (is_picked all) }
+    requires ways_tell { Tells (G.answers ask_ways) (is_edge_picked ways) }
+    ensures rewritten { IsRewritten image.now (both all ways) result }
     ensures simulates { IfOk result (λ r. Simulates image.now r.bytes) }
-    ensures written { IfOk result (λ r. (f : Frame) × IsWrittenFor image.now rule r.bytes f) }
+    ensures written { IfOk result (λ r.
+        (f : Frame) × IsWrittenFor image.now (both all ways) r.bytes f) }
 {
-    rewrite(alloc, image, &Hooks::new(rule, ask))
+    let hooks = Hooks::new(all, ask);
+    let edges = EdgeHooks::new(ways, ask_ways);
+    rewrite_edges(alloc, image, &hooks, &edges)
 }
 
 /// The input of a rewritten file, which is written to `output`, and how many bytes it has.
@@ -160,27 +177,56 @@ fn copied(alloc: Global, bytes: &[u8]) -> Result<Bytes, NoMemory>
     Ok(Bytes::new(Vec::from_slice(alloc, bytes)?))
 }
 
-/// The output of a rewritten file's input by the file's rule, which is written to `output`, and its numbers.
+/// The output of a rewritten file's input by the file's rules, which is written to `output`, and its numbers.
 fn upgraded<'a>(alloc: Global, output: &'a str, file: &[u8]) -> Result<Delivery<'a>, Objection>
     ensures { IsVerdictOf (IsNotUpgraded file.now) (IsUpgrading output.now file.now) result }
 {
     let Some(frame) = read_frame(file) else {
         return Err(Objection::Lacking(Defect::NoFrame));
     };
-    let counted = frame_rule(alloc, &frame)?;
-    counting(alloc, output, counted, frame.input())
+    let all = frame_rule(alloc, &frame)?;
+    let ways = frame_edge_rule(alloc, &frame)?;
+    counting(alloc, output, all, ways, frame.input())
+}
+
+/// Whether a file is a rewriting of an image, whoever made it, and how many sites the image has.
+fn checked<'a>(alloc: Global, image: &[u8], file: &[u8]) -> Result<Delivery<'a>, Objection>
+    requires fits { Fits image.now }
+    ensures { IsVerdictOf (IsNotAlike image.now file.now) (IsChecking image.now file.now) result }
+{
+    let sites = check(alloc, image, file)?;
+    let text = checked_text(alloc, sites)?;
+    Ok(Delivery {
+        text: Printout::Text(text),
+        file: None,
+    })
 }
 
 /// The rule of a text that has one; that no site is counted, where there is no text.
 fn named_rule(alloc: Global, text: Option<&str>) -> Result<Rule, NoMemory>
-    requires { IsRuled text }
-    ensures is { IfOk result (λ rule. rule ≡ named text.entry) }
+    requires { IsRule text }
+    ensures is { IfOk result (λ rule. rule ≡ rule_of text.entry) }
     ensures ascends { IfOk result IsAscending }
 {
     let Some(text) = text else {
         return Ok(Rule::None);
     };
     match read_rule(alloc, text)? {
+        Some(rule) => Ok(rule),
+        None => unreachable!(),
+    }
+}
+
+/// The edge rule of a text that has one; that no way is counted, where there is no text.
+fn named_edges(alloc: Global, text: Option<&str>) -> Result<EdgeRule, NoMemory>
+    requires { IsEdgeRule text }
+    ensures is { IfOk result (λ rule. rule ≡ edges_of text.entry) }
+    ensures ascends { IfOk result EdgesAscend }
+{
+    let Some(text) = text else {
+        return Ok(EdgeRule::None);
+    };
+    match read_edge_rule(alloc, text)? {
         Some(rule) => Ok(rule),
         None => unreachable!(),
     }
@@ -234,7 +280,16 @@ fn sampled<'a>(
     ensures { IsVerdictOf (λ _. ⊥) (IsSampling number size output.now) result }
 {
     let image = sample(alloc, number, size)?;
-    let rewritten = rewritten_by(alloc, image.as_slice(), Rule::None, |_: &Site| false)?;
+    let none = |_: &Site| false;
+    let no_way = |_: &Site| false;
+    let rewritten = rewritten_by(
+        alloc,
+        image.as_slice(),
+        Rule::None,
+        EdgeRule::None,
+        none,
+        no_way,
+    )?;
     let text = sample_text(alloc, rewritten.sites, image.len(), rewritten.bytes.len())?;
     Ok(Delivery {
         text: Printout::Text(text),

@@ -3,20 +3,30 @@
 ghost use Rattle.std.specs.Prelude.{◌≡◌, ◌≤◌, IfSome, IsSome, length};
 ghost use Rattle.std.specs.Option.{option_map};
 ghost use Rattle.counter_hooks.specs.RuleTexts.{rule_of};
-ghost use Rattle.multiverse_cli.specs.Words.{asked, asked_of, extract_words, frame_words, image_words, input_count, is_name as is_name_of, HasRule, HasSize, list_words, number_of, number_within as number_within_of, option_rule, rewrite_words, rule_or_none, counting_asked, counting_words, sample_words, texts, trace_words, upgrade_words, work_of};
+ghost use Rattle.edge_hooks.specs.RuleTexts.{edge_rule_of};
+ghost use Rattle.multiverse_cli.specs.Words.{asked, asked_of, check_words, counting_asked, counting_words, edges_or_none, extract_words, frame_words, image_words, input_count, is_name as is_name_of, IsRuled, HasRule, HasSize, list_words, named, number_of, number_within as number_within_of, one_option, option_edges, option_rule, rewrite_words, rule_or_none, sample_words, texts, trace_words, two_options, upgrade_words, work_of};
 
 use crate::sample::LARGEST;
 use counter_hooks::is_rule;
+use edge_hooks::is_edge_rule;
 use itoa::Buffer;
+
+/// The texts of the rules by which a rewritten image is counted: that of executions, and that of the ways that branches and
+/// loops go. Without a text nothing is counted.
+#[derive(Clone, Copy)]
+pub struct RuleTexts<'a> {
+    pub all: Option<&'a str>,
+    pub ways: Option<&'a str>,
+}
 
 /// What is done with the files that a command reads.
 #[derive(Clone, Copy)]
 pub enum Task<'a> {
-    /// Write to `output` the rewritten image, which the one file holds, with a counter at each site that the rule of this
-    /// text picks; without a text at none.
+    /// Write to `output` the rewritten image, which the one file holds, with the counters that the rules of these texts
+    /// pick.
     Rewrite {
         output: &'a str,
-        rule: Option<&'a str>,
+        rules: RuleTexts<'a>,
     },
     /// Run the image, which the first file holds, on the log in the second, for at most `steps` steps.
     Trace {
@@ -34,10 +44,12 @@ pub enum Task<'a> {
     Extract {
         output: &'a str,
     },
-    /// Write to `output` the output of that input, by the rule that the rewritten file has.
+    /// Write to `output` the output of that input, by the rules that the rewritten file has.
     Upgrade {
         output: &'a str,
     },
+    /// Look whether the second file is a rewriting of the image, which the first file holds.
+    Check,
 }
 
 /// A command: the names of the store's files that it reads, in order, and what it does with them.
@@ -78,7 +90,9 @@ fn frame_command(words: &[String]) -> Option<Command<'_>>
     ensures sized { IfSome result (λ c. HasSize (work_of c.task)) }
     ensures ruled { IfSome result (λ c. HasRule c.task) }
 {
-    extract_command(words).or_else(|| upgrade_command(words))
+    extract_command(words)
+        .or_else(|| upgrade_command(words))
+        .or_else(|| check_command(words))
 }
 
 /// `rewrite IN OUT`.
@@ -97,7 +111,10 @@ fn rewrite_command(words: &[String]) -> Option<Command<'_>>
                 reads: &words[1..2],
                 task: Task::Rewrite {
                     output: output.as_str(),
-                    rule: None,
+                    rules: RuleTexts {
+                        all: None,
+                        ways: None,
+                    },
                 },
             })
         }
@@ -105,7 +122,7 @@ fn rewrite_command(words: &[String]) -> Option<Command<'_>>
     }
 }
 
-/// `rewrite IN OUT --count=RULE`.
+/// `rewrite IN OUT --count=RULE`, `rewrite IN OUT --edges=ERULE`, or both options in this order.
 fn counting_command(words: &[String]) -> Option<Command<'_>>
     ensures is { option_map asked result ≡ counting_words (texts words.now) }
     ensures inputs { IfSome result (λ c. length c.reads.now ≡ input_count (work_of c.task)) }
@@ -117,7 +134,13 @@ fn counting_command(words: &[String]) -> Option<Command<'_>>
             command.as_str(),
             &words[1..2],
             output.as_str(),
-            option.as_str(),
+            one_rule(option.as_str()),
+        ),
+        [command, input, output, count, ways] if is_name(input.as_str()) => counting(
+            command.as_str(),
+            &words[1..2],
+            output.as_str(),
+            two_rules(count.as_str(), ways.as_str()),
         ),
         _ => None,
     }
@@ -129,11 +152,12 @@ fn counting<'a>(
     command: &str,
     reads: &'a [String],
     output: &'a str,
-    option: &'a str,
+    rules: Option<RuleTexts<'a>>,
 ) -> Option<Command<'a>>
-    requires { length reads.now ≡ 1 }
+    requires reads { length reads.now ≡ 1 }
+    requires ruled { IfSome rules IsRuled }
     ensures is { option_map asked result ≡ counting_asked command.now (texts reads.now) output.now
-        option.now }
+        (option_map named rules) }
     ensures inputs { IfSome result (λ c. length c.reads.now ≡ input_count (work_of c.task)) }
     ensures sized { IfSome result (λ c. HasSize (work_of c.task)) }
     ensures ruled { IfSome result (λ c. HasRule c.task) }
@@ -141,13 +165,45 @@ fn counting<'a>(
     if command != "rewrite" || !is_name(output) {
         return None;
     }
-    let rule = counted(option)?;
+    let rules = rules?;
     Some(Command {
         reads,
-        task: Task::Rewrite {
-            output,
-            rule: Some(rule),
-        },
+        task: Task::Rewrite { output, rules },
+    })
+}
+
+/// The rules of one word, `--count=RULE` or `--edges=ERULE`; `None` where it is neither.
+#[tactic(auto, unfolding(crate::specs::Words::one_option))]
+fn one_rule(option: &str) -> Option<RuleTexts<'_>>
+    ensures is { option_map named result ≡ one_option option.now }
+    ensures ruled { IfSome result IsRuled }
+{
+    match counted(option) {
+        Some(all) => Some(RuleTexts {
+            all: Some(all),
+            ways: None,
+        }),
+        None => {
+            let ways = edges(option)?;
+            Some(RuleTexts {
+                all: None,
+                ways: Some(ways),
+            })
+        }
+    }
+}
+
+/// The rules of the words `--count=RULE` and `--edges=ERULE`; `None` where one of them isn't so.
+#[tactic(auto, unfolding(crate::specs::Words::two_options))]
+fn two_rules<'a>(count: &'a str, ways: &'a str) -> Option<RuleTexts<'a>>
+    ensures is { option_map named result ≡ two_options count.now ways.now }
+    ensures ruled { IfSome result IsRuled }
+{
+    let all = counted(count)?;
+    let ways = edges(ways)?;
+    Some(RuleTexts {
+        all: Some(all),
+        ways: Some(ways),
     })
 }
 
@@ -159,6 +215,16 @@ fn counted(option: &str) -> Option<&str>
 {
     let text = option.strip_prefix("--count=")?;
     if is_rule(text) { Some(text) } else { None }
+}
+
+/// The text of the edge rule of a word `--edges=ERULE`; `None` where it is no such word.
+#[tactic(auto, unfolding(crate::specs::Words::option_edges))]
+fn edges(option: &str) -> Option<&str>
+    ensures is { option_map (λ text. edges_or_none text.now) result ≡ option_edges option.now }
+    ensures ruled { IfSome result (λ text. IsSome (edge_rule_of text.now)) }
+{
+    let text = option.strip_prefix("--edges=")?;
+    if is_edge_rule(text) { Some(text) } else { None }
 }
 
 /// `trace IN LOG STEPS`.
@@ -266,6 +332,26 @@ fn upgrade_command(words: &[String]) -> Option<Command<'_>>
                 },
             })
         }
+        _ => None,
+    }
+}
+
+/// `check IN OUT`.
+fn check_command(words: &[String]) -> Option<Command<'_>>
+    ensures is { option_map asked result ≡ check_words (texts words.now) }
+    ensures inputs { IfSome result (λ c. length c.reads.now ≡ input_count (work_of c.task)) }
+    ensures sized { IfSome result (λ c. HasSize (work_of c.task)) }
+    ensures ruled { IfSome result (λ c. HasRule c.task) }
+{
+    match words {
+        [command, input, output]
+            if command.as_str() == "check" && is_name(input.as_str()) && is_name(output.as_str()) =>
+            {
+                Some(Command {
+                    reads: &words[1..3],
+                    task: Task::Check,
+                })
+            }
         _ => None,
     }
 }

@@ -29,8 +29,8 @@ verdict-requires-clause-fit g c =
     subst P (sym c.as_slice.ensures.value)
     (read-fit s (texts c.args.command.now.reads.now) c.in_ok-files.files.items c.in_ok-files.ensures.reads)
 
-pub returns-in_err-write_file : goal.returns-in_err-write_file
-returns-in_err-write_file g c =
+pub returns-in_err-write_file-clause-carries : goal.returns-in_err-write_file-clause-carries
+returns-in_err-write_file-clause-carries g c =
     let command = c.args.command.now in
     let a = asked command in
     let files = c.in_ok-files.files.items in
@@ -59,8 +59,8 @@ returns-in_err-write_file g c =
     (fails-whole c.in_err-write_file.field-0.0 a w s d f last is file (output-named a.work files d f delivers file)
     (subst Q c.as_slice-in-Some.ensures c.in_err-write_file.ensures.writes) c.in_err-write_file.ensures.others_same)
 
-pub returns : goal.returns
-returns g c =
+pub returns-clause-carries : goal.returns-clause-carries
+returns-clause-carries g c =
     let command = c.args.command.now in
     let a = asked command in
     let files = c.in_ok-files.files.items in

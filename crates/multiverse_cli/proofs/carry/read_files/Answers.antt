@@ -41,6 +41,7 @@ loop-name-preserved g c =
       tells = c.in_ok-bytes.ensures.tells_same ∙ c.loop-name.invariant.tells;
       holds = c.in_ok-bytes.ensures.holds_same ∙ c.loop-name.invariant.holds;
       reads = omega arith;
+      reads_same = c.in_ok-bytes.ensures.counts.0 ∙ c.loop-name.invariant.reads_same;
       writes = c.in_ok-bytes.ensures.write_faults_same ∙ c.loop-name.invariant.writes;
       so_far = elim c.match-branch-2.branch [
         | in-Some+in_ok-push-in-Some x ↦ so-far-same c.loop-name.oversized _ s (texts (take c.loop-name.name-index c.args.names.now) ++ n ∷ []) _ (c.loop-name.files.items ++ x.in-Some.bytes ∷ []) _ x.oversized-is more

@@ -4,11 +4,10 @@ ghost use Rattle.std.specs.Prelude.{◌≡◌, ◌≤◌, ◌+◌, length};
 ghost use Rattle.x86_machine.specs.Stepping.{HasRoom};
 ghost use Rattle.x86_machine.specs.declared.machine.Outcome.TheVariants.{Next};
 
-use crate::run::run;
-use crate::tests::{file_of, strings};
-use crate::trace_rows::store_of;
+use super::files::file_of;
+use super::{NONE, answer};
 use elf32_read::read_image;
-use mv_base::{MemSink, MemStore, Status};
+use mv_base::Status;
 use std::alloc::Global;
 use std::process::Abort;
 use std::test::Fail;
@@ -92,15 +91,14 @@ fn follow(rt: &impl Abort, input: &mut Walk, output: &Walk, steps: u32) -> u32 {
     STEPS
 }
 
-/// A store that holds an image as `a` and its rewritten form as `b`.
-fn rewritten(rt: &(impl AllocGlobal + Abort), image: &[u8]) -> Result<MemStore, Fail> {
-    let alloc = rt.alloc();
-    let mut store = store_of(alloc, image, "log 1\n")?;
-    let words = strings(alloc, &["rewrite", "a", "b"])?;
-    let mut text = MemSink::new(alloc, Vec::new(alloc))?;
-    let status = run(alloc, words.as_slice(), &mut store, &mut text);
-    assert_eq!(rt; status, Status::Done);
-    Ok(store)
+/// The rewritten form of an image.
+fn rewritten(alloc: Global, image: &[u8]) -> Result<Vec<u8>, Fail> {
+    let answer = answer(alloc, "rewrite a b", &[("a", image)], NONE)?;
+    if answer.status == Status::Done {
+        Ok(Vec::from_slice(alloc, answer.written.as_slice())?)
+    } else {
+        Ok(Vec::new(alloc))
+    }
 }
 
 /// A log without arguments and answers.
@@ -113,11 +111,11 @@ fn empty_log(alloc: Global) -> Result<Log, Fail> {
 #[test]
 fn each_state_of_a_return_shows_what_its_input_shows(rt: HostRuntime) -> Result<(), Fail> {
     let alloc = rt.alloc();
-    let image = file_of(alloc, &[], CODE)?;
-    let store = rewritten(&rt, image.as_slice())?;
+    let image = file_of(alloc, CODE)?;
+    let file = rewritten(alloc, &image)?;
     let log = empty_log(alloc)?;
     let mut input = Walk::start(alloc, image.as_slice(), &log)?;
-    let mut output = Walk::start(alloc, store.file("b").ok_or("an output")?, &log)?;
+    let mut output = Walk::start(alloc, &file, &log)?;
     let mut steps = 0;
     for _ in 0..OUTPUT_STEPS {
         assert_eq!(rt; output.step(), Outcome::Next);
