@@ -49,6 +49,8 @@ static const struct limits LIMITS[] = {[1] = {67108864, 4194304, WORD}, [2] = {2
 struct frame {
   struct record record;
   struct original original;
+  struct segment segments[MOST_HEADERS + 2];
+  uint32_t segment_count;
   uint8_t *table;
   uint8_t *is_entry; /* one bit an address of the code */
 };
@@ -142,7 +144,9 @@ static void mark_entries(struct frame *frame) {
 }
 
 /* The values that the kernel computes of the input, which stands whole behind the head. */
-static bool read_original(int file, uint32_t input_length, struct original *original) {
+static bool read_original(int file, struct frame *frame) {
+  uint32_t input_length = frame->record.input_length;
+  struct original *original = &frame->original;
   Elf32_Ehdr header;
   Elf32_Phdr headers[MOST_HEADERS];
   if (input_length < sizeof header || !read_at(file, &header, sizeof header, HEAD_LENGTH)) return false;
@@ -154,6 +158,12 @@ static bool read_original(int file, uint32_t input_length, struct original *orig
     if (headers[k].p_type == PT_LOAD && headers[k].p_offset <= header.e_phoff &&
         header.e_phoff - headers[k].p_offset < headers[k].p_filesz)
       original->headers = header.e_phoff - headers[k].p_offset + headers[k].p_vaddr;
+  for (int k = 0; k < header.e_phnum; k++) {
+    uint32_t lo = headers[k].p_vaddr / PAGE * PAGE;
+    uint64_t end = up((uint64_t)headers[k].p_vaddr + headers[k].p_memsz);
+    if (headers[k].p_type == PT_LOAD && headers[k].p_memsz > 0)
+      frame->segments[frame->segment_count++] = (struct segment){lo, (uint32_t)(end - lo), headers[k].p_flags & PF_W};
+  }
   return true;
 }
 
@@ -181,12 +191,21 @@ static bool read_table(int file, struct frame *frame) {
          kinds_hold(frame) && parts_hold(frame);
 }
 
+/* The table and the private area are segments too; the added code keeps its rights. */
+static void add_segments(struct frame *frame) {
+  const struct record *r = &frame->record;
+  uint32_t private_length = PRIVATE_LENGTH + COUNTER_LENGTH * r->counters;
+  frame->segments[frame->segment_count++] = (struct segment){r->table_lo, (uint32_t)up(r->table_length), false};
+  frame->segments[frame->segment_count++] = (struct segment){r->private_lo, (uint32_t)up(private_length), true};
+}
+
 struct frame *frame_read(int file) {
   struct frame *frame = calloc(1, sizeof *frame);
   if (!frame) return NULL;
-  if (read_record(file, &frame->record) && read_original(file, frame->record.input_length, &frame->original) &&
+  if (read_record(file, &frame->record) && read_original(file, frame) &&
       read_table(file, frame)) {
     mark_entries(frame);
+    add_segments(frame);
     return frame;
   }
   free(frame->table);
@@ -219,3 +238,60 @@ uint32_t frame_piece(const struct frame *frame, uint32_t address) {
     if (frame_is_entry(frame, at)) return at;
   return address;
 }
+
+uint32_t frame_code(const struct frame *frame) { return frame->record.code_lo; }
+
+uint32_t frame_code_length(const struct frame *frame) { return frame->record.code_length; }
+
+bool frame_in_run(const struct frame *frame, uint32_t address) {
+  for (uint32_t k = 0; k < frame->record.run_count; k++)
+    if (address >= frame->record.runs[k].lo && address - frame->record.runs[k].lo < frame->record.runs[k].length) return true;
+  return false;
+}
+
+void frame_each(const struct frame *frame, void (*see)(uint32_t old, uint32_t entry, void *with), void *with) {
+  for (uint32_t k = 0; k < frame->record.run_count; k++) {
+    const struct run *run = &frame->record.runs[k];
+    for (uint32_t n = 0; n < run->length; n++) {
+      uint32_t entry = run_entry(frame, run, run->lo + n);
+      if (entry) see(run->lo + n, entry, with);
+    }
+  }
+}
+
+/* The old address of an entry, while it is looked for. */
+struct search {
+  uint32_t entry, old;
+};
+
+static void look(uint32_t old, uint32_t entry, void *with) {
+  struct search *search = with;
+  if (entry == search->entry && !search->old) search->old = old;
+}
+
+uint32_t frame_old(const struct frame *frame, uint32_t entry) {
+  struct search search = {entry, 0};
+  frame_each(frame, look, &search);
+  return search.old;
+}
+
+uint32_t frame_counters(const struct frame *frame) { return frame->record.counters; }
+
+uint32_t frame_counter_place(const struct frame *frame, uint32_t k) {
+  return frame->record.first_counter + COUNTER_LENGTH * k;
+}
+
+uint32_t frame_counted(const struct frame *frame, uint32_t k) {
+  return table_word(frame, frame->record.counted_list + limits_of(&frame->record)->listed * k);
+}
+
+uint32_t frame_kind(const struct frame *frame, uint32_t k) {
+  uint32_t listed = limits_of(&frame->record)->listed;
+  return listed > WORD ? table_word(frame, frame->record.counted_list + listed * k + WORD) : 0;
+}
+
+uint32_t frame_segment_count(const struct frame *frame) { return frame->segment_count; }
+
+struct segment frame_segment(const struct frame *frame, uint32_t k) { return frame->segments[k]; }
+
+uint64_t frame_code_offset(const struct frame *frame) { return HEAD_LENGTH + up(frame->record.input_length); }
