@@ -60,25 +60,33 @@ pub record AtPiece (area : Area) (here : ℕ) (bytes : List ℕ) (o t : State) :
   pub place : t.eip ≡ here
   pub stands : StandsIn area t.memory here bytes
 
+-- each state before the last leaves of a memory what pieces leave
+abbrev pub AllKeep : Area → Memory → ℕ → State → State → Type 0
+AllKeep area m n s u = Passes (λ v. Keeps area m v.memory) n s u
+
 -- ---- what a piece comes to
 
--- t comes in k steps to a state that is o' but for the area, and before it shows what o shows or what o' shows
+-- t comes in k steps to a state that is o' but for the area; each state before it shows what o shows or what o' shows, and leaves
+-- in the area all but what pieces may write
 pub record Reaches (area : Area) (k : ℕ) (Arrives : ℕ → State → Type 0) (o o' t : State) : Type 0 where
   pub last : State
   pub passes : Passes (λ u. ShowsSame area.added o u ⊎ ShowsSame area.added o' u) k t last
+  pub way : AllKeep area t.memory k t last
   pub alike : StatesBeside area.added o' last
   pub keeps : Keeps area t.memory last.memory
   pub arrives : Arrives o'.eip last
 
--- t stops for the same cause within k steps, and until then shows what o shows; what it stops with is o' but for the
--- area, completed iterations included
+-- t stops for the same cause within k steps, and until then shows what o shows, and leaves in the area all but what pieces may
+-- write; what it stops with is o' but for the area, completed iterations included
 pub record Breaks (area : Area) (k : ℕ) (o o' t : State) (why : Stop) : Type 0 where
   pub count : ℕ
   pub fewer : count < k
   pub last : State
   pub stopped : State
   pub passes : Passes (ShowsSame area.added o) count t last
+  pub way : AllKeep area t.memory count t last
   pub shows : ShowsSame area.added o last
+  pub kept : Keeps area t.memory last.memory
   pub stops : step last ≡ Stopped why stopped
   pub alike : StatesBeside area.added o' stopped
   pub keeps : Keeps area t.memory stopped.memory

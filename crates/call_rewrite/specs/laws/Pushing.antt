@@ -21,7 +21,7 @@ use Rattle.x86_insn.specs.Round.{round, limit}
 use Rattle.x86_insn.specs.State.{State, Outcome, Next, Stopped}
 use Rattle.x86_insn.specs.Step.{Found, fetch, turn, after_hop, step}
 use Rattle.step_laws.specs.Beside.{Beside, ShowsSame, StatesBeside, IsClearOutcome}
-use Rattle.step_laws.specs.Meeting.{Area, AtPiece, StandsIn, Reaches, Breaks, Meets}
+use Rattle.step_laws.specs.Meeting.{Area, AtPiece, StandsIn, Keeps, Reaches, Breaks, Meets}
 use Rattle.step_laws.specs.laws.Passing.{passes_none, passes_one, passes_first}
 use Rattle.step_laws.specs.laws.Putting.{put_far}
 use Rattle.step_laws.specs.laws.Coding.{IsLow, low_memory, reached}
@@ -127,9 +127,11 @@ module _ (area : Area) (here n to target : ℕ) (o t : State) (at : AtPiece area
       let alike : StatesBeside area.added o' pushed = record { core = refl; descs = at.beside.descs; calls = at.beside.calls; answers = at.beside.answers; memory = both.beside } in
       let jumps : step pushed ≡ Next last = jump_step area pushed (here + 5) to (keeps_stand area t.memory pushed.memory (here + 5) (jump_bytes (here + 5) to) both.keeps jump_there) refl to_low in
       let quiet : State → Type 0 = λ u. ShowsSame area.added o u ⊎ ShowsSame area.added o' u in
+      let leaves : State → Type 0 = λ u. Keeps area t.memory u.memory in
       let there : Reaches area 2 (GoesKeeping area t target to) o o' t = record {
         last = last;
         passes = passes_first quiet 1 t pushed last (inl (shows_of area.added o t at.beside)) (push_steps free) (passes_one quiet pushed last (inr (shows_of area.added o' pushed alike)) jumps);
+        way = passes_first leaves 1 t pushed last (keeps_same area t.memory) (push_steps free) (passes_one leaves pushed last both.keeps jumps);
         alike = record { core = refl; descs = at.beside.descs; calls = at.beside.calls; answers = at.beside.answers; memory = both.beside };
         keeps = both.keeps;
         arrives = (refl, refl, granted_apart area o.memory t.memory a (bytes_of D n) at.area_there.low along.low at.beside.memory e);
@@ -139,13 +141,16 @@ module _ (area : Area) (here n to target : ℕ) (o t : State) (at : AtPiece area
       let stops = pushing_fails o n target f e in
       let added : area.added f ≡ false = subst (IsClearOutcome area.added) stops clear in
       let fault : write_fault t.memory a 4 ≡ Some f = write_fault_along area at.area_there.low t.memory o.memory t.memory along a 4 (subst (IsClearFault area.added) (sym e) added) ∙ e in
+      let leaves : State → Type 0 = λ u. Keeps area t.memory u.memory in
       let there : Breaks area 2 o o t (Trap WriteFault f) = record {
         count = 0;
         fewer = omega arith;
         last = t;
         stopped = moved t o.core here t.memory;
         passes = passes_none (ShowsSame area.added o) t;
+        way = passes_none leaves t;
         shows = shows_of area.added o t at.beside;
+        kept = keeps_same area t.memory;
         stops = push_stops f fault;
         alike = record { core = refl; descs = at.beside.descs; calls = at.beside.calls; answers = at.beside.answers; memory = at.beside.memory };
         keeps = keeps_same area t.memory;

@@ -38,7 +38,7 @@ use Rattle.step_laws.specs.laws.Turns.{halts}
 use Rattle.step_laws.specs.laws.Alongside.{Alongside}
 use Rattle.step_laws.specs.laws.Composing.{stands_back, keeps_stand, keeps_area, meets_after, meets_wider}
 use Rattle.step_laws.specs.laws.Symbolic.{Setting, Code, Comes, memory_of, on, code_rest, keeps_rest, fetched_on, absolute, plain, write, read, written as word_written, jump, done}
-use Rattle.step_laws.specs.laws.Resting.{rest_shows, rest_reaches, rest_breaks}
+use Rattle.step_laws.specs.laws.Resting.{rest_shows, rest_keeps, rest_reaches, rest_breaks}
 use Rattle.call_rewrite.specs.Far.{LoadsOperand, keep_eax, take_eax, via_parts, via_len, call_parts, jump_via_parts, call_via_parts, jump_bytes}
 use Rattle.call_rewrite.specs.laws.Registers.{eax_set, eax_again}
 use Rattle.call_rewrite.specs.laws.Operands.{operand_value, operand_stop, IsClearIfSome, operand_low, turn_loads, turn_load_stops, mov_loads, mov_load_stops}
@@ -274,8 +274,9 @@ module _ (area : Area) (here next stub : ℕ) (load : List ℕ) (operand : Rm) (
       let is = call_via_done o next operand e in
       let pushed = pushes_meet area place next stub calls o before before_at next_low stub_low (subst (IsClearOutcome area.added) is clear) in
       let quiet = passes_weaker (KeepsRest area.scratch t) (ShowsSame area.added o) (rest_shows area o t at.area_there at.beside) 4 t before (before_comes e) in
+      let kept = rest_keeps area o t at.area_there at.beside 4 before (before_comes e) in
       subst (Meets area 6 (GoesVia area stub) o t) (sym is)
-      (meets_after area o t 4 2 (GoesVia area stub) before (pushing o next calls) quiet before_along.keeps
+      (meets_after area o t 4 2 (GoesVia area stub) before (pushing o next calls) quiet kept before_along.keeps
       (meets_wider area o before 2 (GoesKeeping area before calls stub) (GoesVia area stub) (pushing o next calls) keeps_target pushed))
   call_via_by (Some why) e clear =
       let stops = call_via_fails o next operand why e in

@@ -137,7 +137,7 @@ module _ (b x : List ℕ) (f : Frame) (rel : IsOutput b x f) (o t : State) (i : 
       let join = jump_bytes (here + length p) (frame_map f next) in
       let stands = stands_in b x f rel o t (here + length p) join alike stand (omega (arith, jump_len (here + length p) (frame_map f next))) in
       let there = joins (area_of f) o' u (here + length p) (frame_map f next) (keeps_stand (area_of f) t.memory u.memory _ join k stands) to.1 (rel.mapped next next_low) w in
-      record { last = there.last; passes = there.passes; alike = there.alike; keeps = there.keeps; arrives = there.arrives ∙ ap (frame_map f) (sym to.0) }
+      record { last = there.last; passes = there.passes; way = there.way; alike = there.alike; keeps = there.keeps; arrives = there.arrives ∙ ap (frame_map f) (sym to.0) }
 
   -- where the successor's entry is there, it has arrived
   chained : (p : List ℕ) → frame_map f next ≡ here + length p → (o' : State) (u : State) → GoesTo next (here + length p) o'.eip u → Moves (frame_map f) o'.eip u
@@ -169,16 +169,16 @@ module _ (b x : List ℕ) (f : Frame) (rel : IsOutput b x f) (o t : State) (i : 
         count = k;
         some = some;
         most = omega (arith, few);
-        meets = record { last = m.last; passes = m.passes; alike = m.alike; keeps = m.keeps; arrives = g.1 ∙ ap (frame_map f) (sym g.0) };
+        meets = record { last = m.last; passes = m.passes; way = m.way; alike = m.alike; keeps = m.keeps; arrives = g.1 ∙ ap (frame_map f) (sym g.0) };
       }
       go (inr g) (inl e) = record {
         count = k;
         some = some;
         most = omega (arith, few);
-        meets = record { last = m.last; passes = m.passes; alike = m.alike; keeps = m.keeps; arrives = chained p e o' m.last g };
+        meets = record { last = m.last; passes = m.passes; way = m.way; alike = m.alike; keeps = m.keeps; arrives = chained p e o' m.last g };
       }
       go (inr g) (inr stand) =
-          let first : Reaches (area_of f) k (GoesTo next (here + length p)) o o' t = record { last = m.last; passes = m.passes; alike = m.alike; keeps = m.keeps; arrives = g } in
+          let first : Reaches (area_of f) k (GoesTo next (here + length p)) o o' t = record { last = m.last; passes = m.passes; way = m.way; alike = m.alike; keeps = m.keeps; arrives = g } in
           record {
             count = k + 1;
             some = omega arith;

@@ -12,8 +12,9 @@ use Rattle.x86_insn.specs.Transfers.{loop_core, loop_jumps}
 use Rattle.x86_insn.specs.State.{State, Outcome, Next, Stopped}
 use Rattle.x86_insn.specs.Step.{Found, fetch, step}
 use Rattle.step_laws.specs.Beside.{ShowsSame}
-use Rattle.step_laws.specs.Meeting.{Reaches, Breaks, Moves}
+use Rattle.step_laws.specs.Meeting.{Keeps, AllKeep, Reaches, Breaks, Moves}
 use Rattle.step_laws.specs.laws.Alongside.{keeps_on}
+use Rattle.step_laws.specs.laws.Composing.{all_keep_then}
 use Rattle.step_laws.specs.laws.Passing.{passes_then, passes_weaker}
 use Rattle.counter_hooks.specs.Rules.{is_branch}
 use Rattle.edge_hooks.specs.Jumping.{insn_jumps}
@@ -24,7 +25,7 @@ use Rattle.simulation_laws.specs.Pieces.{counter_code, piece_with, ways_by}
 use Rattle.simulation_laws.specs.Relocated.{StandAt, LeadsOn, PieceAt, IsOutput, anchors_of, counter_of, kind_of, ways_fit}
 use Rattle.simulation_laws.specs.Simulation.{IsClearStep, is_of_edge, jumps, adds, step_bound}
 use Rattle.simulation_laws.specs.Stopping.{counts_all}
-use Rattle.simulation_laws.specs.Stepping.{counting_area, IsSound, Alike, MeetsWithin, SiteLaw}
+use Rattle.simulation_laws.specs.Stepping.{area_of, counting_area, IsSound, Alike, MeetsWithin, SiteLaw}
 use Rattle.simulation_laws.specs.laws.Sound.{keeps_more}
 use Rattle.simulation_laws.specs.laws.AtSite.{site_of, counter_most, PieceMeets, piece_meets}
 use Rattle.simulation_laws.specs.laws.Counters.{no_counter}
@@ -70,6 +71,10 @@ branch_falls (insn.Branch cond rel) is = refl
 branch_falls (insn.Loop kind rel) is = refl
 branch_falls i is = absurd (true≢false (sym is))
 
+-- what leaves the counters too leaves what counters may write
+more_keep : (f : Frame) (t : State) (n : ℕ) (last : State) → AllKeep (area_of f) t.memory n t last → AllKeep (counting_area f) t.memory n t last
+more_keep f t n last p = passes_weaker (λ v. Keeps (area_of f) t.memory v.memory) (λ v. Keeps (counting_area f) t.memory v.memory) (λ v k. keeps_more f t.memory v.memory k) n t last p
+
 module _ (b x : List ℕ) (f : Frame) (rel : IsOutput b x f) where
   -- a piece without counters
   plain_way : (o t : State) (X : Outcome) → HasNoWays f o.eip → PieceMeets f o t X → WayMeets f o t X
@@ -80,7 +85,7 @@ module _ (b x : List ℕ) (f : Frame) (rel : IsOutput b x f) where
         some = m.some;
         most = m.most;
         comes = (
-          record { last = r.last; passes = r.passes; alike = r.alike; keeps = keeps_more f t.memory r.last.memory r.keeps; arrives = r.arrives },
+          record { last = r.last; passes = r.passes; way = more_keep f t m.count r.last r.way; alike = r.alike; keeps = keeps_more f t.memory r.last.memory r.keeps; arrives = r.arrives },
           adds_if f none_of (edge_adds o) t.memory r.last.memory (λ k lt. sym (no_way f o none k lt)) (same_numbers b x f rel t.memory r.last.memory r.keeps),
         );
       }
@@ -91,7 +96,7 @@ module _ (b x : List ℕ) (f : Frame) (rel : IsOutput b x f) where
         some = m.some;
         most = m.most;
         comes = (
-          record { count = r.count; fewer = r.fewer; last = r.last; stopped = r.stopped; passes = r.passes; shows = r.shows; stops = r.stops; alike = r.alike; keeps = keeps_more f t.memory r.stopped.memory r.keeps },
+          record { count = r.count; fewer = r.fewer; last = r.last; stopped = r.stopped; passes = r.passes; way = more_keep f t r.count r.last r.way; shows = r.shows; kept = keeps_more f t.memory r.last.memory r.kept; stops = r.stops; alike = r.alike; keeps = keeps_more f t.memory r.stopped.memory r.keeps },
           same_numbers b x f rel t.memory r.stopped.memory r.keeps,
         );
       }
@@ -109,6 +114,7 @@ module _ (b x : List ℕ) (f : Frame) (rel : IsOutput b x f) where
           record {
             last = r.last;
             passes = passes_then _ h.steps m.count t h.told r.last (passes_weaker (ShowsSame (is_added f) o) _ (λ v s. inl s) h.steps t h.told h.passes) r.passes;
+            way = all_keep_then (counting_area f) h.steps m.count t h.told r.last h.way h.keeps r.way;
             alike = r.alike;
             keeps = keeps_on (counting_area f) t.memory h.told.memory r.last.memory h.keeps r.keeps;
             arrives = r.arrives;
@@ -145,7 +151,9 @@ module _ (b x : List ℕ) (f : Frame) (rel : IsOutput b x f) where
             last = r.last;
             stopped = r.stopped;
             passes = passes_then (ShowsSame (is_added f) o) h.steps r.count t h.told r.last h.passes r.passes;
+            way = all_keep_then (counting_area f) h.steps r.count t h.told r.last h.way h.keeps r.way;
             shows = r.shows;
+            kept = keeps_on (counting_area f) t.memory h.told.memory r.last.memory h.keeps r.kept;
             stops = r.stops;
             alike = r.alike;
             keeps = keeps_on (counting_area f) t.memory h.told.memory r.stopped.memory h.keeps r.keeps;

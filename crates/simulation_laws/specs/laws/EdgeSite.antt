@@ -10,8 +10,9 @@ use Rattle.step_laws.specs.Jumps.{jump_bytes}
 use Rattle.step_laws.specs.Bounds.{IsOutcome}
 use Rattle.step_laws.specs.Passes.{Passes}
 use Rattle.step_laws.specs.Beside.{ShowsSame}
-use Rattle.step_laws.specs.Meeting.{Reaches, Moves}
+use Rattle.step_laws.specs.Meeting.{Keeps, AllKeep, Reaches, Moves}
 use Rattle.step_laws.specs.laws.Alongside.{keeps_same}
+use Rattle.step_laws.specs.laws.Composing.{all_keep_then}
 use Rattle.step_laws.specs.laws.Bounding.{step_fits}
 use Rattle.step_laws.specs.laws.Copying.{shows_of}
 use Rattle.step_laws.specs.laws.Joining.{jump_step}
@@ -52,6 +53,7 @@ record Leaves (f : Frame) (o' u : State) : Type 0 where
   steps : ℕ
   few : steps ≤ 2
   passes : Passes (ShowsSame (is_added f) o') steps u (record u { eip = frame_map f o'.eip })
+  way : AllKeep (counting_area f) u.memory steps u (record u { eip = frame_map f o'.eip })
 
 -- the way's kind
 abbrev kind_by : Bool → ℕ
@@ -172,6 +174,7 @@ module _ (b x : List ℕ) (f : Frame) (rel : IsOutput b x f) (ascends : AscendPa
       steps = 1;
       few = omega arith;
       passes = passes_one (ShowsSame (is_added f) o') u _ (shows_of (is_added f) o' u like.beside) (takes here to passed taken u i (edge_there o' u like) at to_low ∙ ap (λ (a : ℕ). Next (record u { eip = frame_map f a })) (sym goes_to));
+      way = passes_one _ u _ (keeps_same (counting_area f) u.memory) (takes here to passed taken u i (edge_there o' u like) at to_low ∙ ap (λ (a : ℕ). Next (record u { eip = frame_map f a })) (sym goes_to));
     }
     leaves false o' u like goes_to at = by_lead leads
       where
@@ -189,6 +192,7 @@ module _ (b x : List ℕ) (f : Frame) (rel : IsOutput b x f) (ascends : AscendPa
           steps = 1;
           few = omega arith;
           passes = passes_one (ShowsSame (is_added f) o') u _ shows (first ∙ ap (λ (a : ℕ). Next (record u { eip = a })) (sym e ∙ ap (frame_map f) (sym goes_to)));
+          way = passes_one _ u _ (keeps_same (counting_area f) u.memory) (first ∙ ap (λ (a : ℕ). Next (record u { eip = a })) (sym e ∙ ap (frame_map f) (sym goes_to)));
         }
         by_lead (inr join) =
             let there = moved_alike o' u (here + length code) like in
@@ -200,6 +204,8 @@ module _ (b x : List ℕ) (f : Frame) (rel : IsOutput b x f) (ascends : AscendPa
               few = omega arith;
               passes = passes_first (ShowsSame (is_added f) o') 1 u (record u { eip = here + length code }) _ shows first
                   (passes_one (ShowsSame (is_added f) o') (record u { eip = here + length code }) _ (shows_of (is_added f) o' (record u { eip = here + length code }) there.beside) (second ∙ ap (λ (a : ℕ). Next (record u { eip = frame_map f a })) (sym goes_to)));
+              way = passes_first (λ v. Keeps (counting_area f) u.memory v.memory) 1 u (record u { eip = here + length code }) _ (keeps_same (counting_area f) u.memory) first
+                  (passes_one (λ v. Keeps (counting_area f) u.memory v.memory) (record u { eip = here + length code }) _ (keeps_same (counting_area f) u.memory) (second ∙ ap (λ (a : ℕ). Next (record u { eip = frame_map f a })) (sym goes_to)));
             }
 
     -- the piece comes to what the instruction comes to, and counts the way
@@ -221,6 +227,8 @@ module _ (b x : List ℕ) (f : Frame) (rel : IsOutput b x f) (ascends : AscendPa
             meets = record {
               last = last;
               passes = passes_first Q (told.steps + leave.steps) t chosen last (inl (shows_of (is_added f) o t alike.beside)) chooses_it way;
+              way = passes_first (λ v. Keeps (counting_area f) t.memory v.memory) (told.steps + leave.steps) t chosen last (keeps_same (counting_area f) t.memory) chooses_it
+                  (all_keep_then (counting_area f) told.steps leave.steps chosen told.told last told.way told.keeps leave.way);
               alike = record { core = told.alike.beside.core; descs = told.alike.beside.descs; calls = told.alike.beside.calls; answers = told.alike.beside.answers; memory = told.alike.beside.memory };
               keeps = told.keeps;
               arrives = refl;

@@ -10,7 +10,7 @@ use Rattle.step_laws.specs.Bounds.{IsState}
 use Rattle.step_laws.specs.Passes.{Passes}
 use Rattle.step_laws.specs.Beside.{ShowsSame, StatesBeside}
 use Rattle.step_laws.specs.Keeping.{KeepsRest}
-use Rattle.step_laws.specs.Meeting.{private_len, HasArea, Keeps}
+use Rattle.step_laws.specs.Meeting.{private_len, HasArea, Keeps, AllKeep}
 use Rattle.step_laws.specs.laws.Passing.{passes_none, passes_weaker, passes_arrives}
 use Rattle.step_laws.specs.laws.Putting.{keeps_bytes, keeps_wider}
 use Rattle.step_laws.specs.laws.Alongside.{keeps_same}
@@ -89,6 +89,7 @@ pub record IsTold (x : List ℕ) (f : Frame) (o t : State) (p : ℕ → ℕ → 
   pub few : steps ≤ counter_most
   pub told : State
   pub passes : Passes (ShowsSame (is_added f) o) steps t told
+  pub way : AllKeep (counting_area f) t.memory steps t told
   pub keeps : Keeps (counting_area f) t.memory told.memory
   pub adds : Adds f p t.memory told.memory
   pub alike : Alike x f o told
@@ -136,6 +137,7 @@ module _ (b x : List ℕ) (f : Frame) (rel : IsOutput b x f) where
       few = omega arith;
       told = t;
       passes = passes_none _ t;
+      way = passes_none _ t;
       keeps = keeps_same (counting_area f) t.memory;
       adds = λ k lt. ap (λ (v : Bool). if v then (counter_number f t.memory k + 1) % 2 ^ 64 else counter_number f t.memory k) (sym (not_that kind at (pair_at f k) (no_counter f kind at k none lt)));
       alike = alike;
@@ -270,6 +272,9 @@ module _ (b x : List ℕ) (f : Frame) (rel : IsOutput b x f) where
             told = run.last;
             passes = passes_weaker (KeepsRest (is_scratch f.private p) t) (ShowsSame (is_added f) o)
                 (λ v k. rest_shows (counting_area f) o t there alike.beside v (record { descs = k.descs; calls = k.calls; answers = k.answers; memory = keeps_wider (is_scratch f.private p) (is_private f) t.memory v.memory scratch_within k.memory }))
+                (counting_steps now) t run.last run.passes;
+            way = passes_weaker (KeepsRest (is_scratch f.private p) t) (λ v. Keeps (counting_area f) t.memory v.memory)
+                (λ v k. cells_keep (counting_area f) t.memory there v.memory (keeps_wider (is_scratch f.private p) (is_private f) t.memory v.memory scratch_within k.memory))
                 (counting_steps now) t run.last run.passes;
             keeps = keeps;
             adds = adds_one;

@@ -6,7 +6,7 @@ use Rattle.mv_base.specs.Memory.{Memory, exec_byte_of}
 use Rattle.x86_insn.specs.State.{State, Outcome, Next, Stopped}
 use Rattle.step_laws.specs.Passes.{Passes}
 use Rattle.step_laws.specs.Beside.{ShowsSame, StatesBeside}
-use Rattle.step_laws.specs.Meeting.{Area, HasArea, StandsIn, Keeps, AtPiece, Reaches, Meets}
+use Rattle.step_laws.specs.Meeting.{Area, HasArea, StandsIn, Keeps, AllKeep, AtPiece, Reaches, Meets}
 use Rattle.step_laws.specs.laws.Passing.{passes_then, passes_weaker}
 use Rattle.step_laws.specs.laws.Fetching as standing
 use Rattle.step_laws.specs.laws.Putting.{marks_writable}
@@ -67,26 +67,37 @@ keeps_area area t u h k = record {
 
 -- ---- one after the other
 
+-- what leaves the area behind states that leave it
+pub all_keep : (area : Area) (m : Memory) (n : ℕ) (u last : State) → Keeps area m u.memory → AllKeep area u.memory n u last → AllKeep area m n u last
+all_keep area m n u last h p = passes_weaker (λ v. Keeps area u.memory v.memory) (λ v. Keeps area m v.memory) (λ v k. keeps_on area m u.memory v.memory h k) n u last p
+
+-- two runs that leave it, one after the other
+pub all_keep_then : (area : Area) (n k : ℕ) (t u last : State) → AllKeep area t.memory n t u → Keeps area t.memory u.memory → AllKeep area u.memory k u last → AllKeep area t.memory (n + k) t last
+all_keep_then area n k t u last p h q = passes_then (λ v. Keeps area t.memory v.memory) n k t u last p (all_keep area t.memory k u last h q)
+
 module _ (area : Area) (o t : State) where
   abbrev Quiet : State → State → Type 0
   Quiet o' u = ShowsSame area.added o u ⊎ ShowsSame area.added o' u
 
   -- quiet steps in front of a piece
-  pub meets_after : (k n : ℕ) (Arrives : ℕ → State → Type 0) (u : State) (X : Outcome) → Passes (ShowsSame area.added o) k t u → Keeps area t.memory u.memory → Meets area n Arrives o u X → Meets area (k + n) Arrives o t X
-  meets_after k n Arrives u (Next o') p h m = record {
+  pub meets_after : (k n : ℕ) (Arrives : ℕ → State → Type 0) (u : State) (X : Outcome) → Passes (ShowsSame area.added o) k t u → AllKeep area t.memory k t u → Keeps area t.memory u.memory → Meets area n Arrives o u X → Meets area (k + n) Arrives o t X
+  meets_after k n Arrives u (Next o') p q h m = record {
     last = m.last;
     passes = passes_then (Quiet o') k n t u m.last (passes_weaker (ShowsSame area.added o) (Quiet o') (λ v s. inl s) k t u p) m.passes;
+    way = all_keep_then area k n t u m.last q h m.way;
     alike = m.alike;
     keeps = keeps_on area t.memory u.memory m.last.memory h m.keeps;
     arrives = m.arrives;
   }
-  meets_after k n Arrives u (Stopped why o') p h m = record {
+  meets_after k n Arrives u (Stopped why o') p q h m = record {
     count = k + m.count;
     fewer = omega (arith, m.fewer);
     last = m.last;
     stopped = m.stopped;
     passes = passes_then (ShowsSame area.added o) k m.count t u m.last p m.passes;
+    way = all_keep_then area k m.count t u m.last q h m.way;
     shows = m.shows;
+    kept = keeps_on area t.memory u.memory m.last.memory h m.kept;
     stops = m.stops;
     alike = m.alike;
     keeps = keeps_on area t.memory u.memory m.stopped.memory h m.keeps;
@@ -99,6 +110,7 @@ module _ (area : Area) (o t : State) where
       record {
         last = m.last;
         passes = passes_then (Quiet o') k n t r.last m.last r.passes (passes_weaker _ (Quiet o') (λ v s. inr (either v s)) n r.last m.last m.passes);
+        way = all_keep_then area k n t r.last m.last r.way r.keeps m.way;
         alike = m.alike;
         keeps = keeps_on area t.memory r.last.memory m.last.memory r.keeps m.keeps;
         arrives = m.arrives;
@@ -117,7 +129,9 @@ module _ (area : Area) (o t : State) where
     last = m.last;
     stopped = m.stopped;
     passes = m.passes;
+    way = m.way;
     shows = m.shows;
+    kept = m.kept;
     stops = m.stops;
     alike = m.alike;
     keeps = m.keeps;
@@ -125,5 +139,5 @@ module _ (area : Area) (o t : State) where
 
   -- where it arrives at one place it arrives at another
   pub meets_wider : (k : ℕ) (First Arrives : ℕ → State → Type 0) (X : Outcome) → ((o' u : State) → First o'.eip u → Arrives o'.eip u) → Meets area k First o t X → Meets area k Arrives o t X
-  meets_wider k First Arrives (Next o') go m = record { last = m.last; passes = m.passes; alike = m.alike; keeps = m.keeps; arrives = go o' m.last m.arrives }
+  meets_wider k First Arrives (Next o') go m = record { last = m.last; passes = m.passes; way = m.way; alike = m.alike; keeps = m.keeps; arrives = go o' m.last m.arrives }
   meets_wider k First Arrives (Stopped why o') go m = m

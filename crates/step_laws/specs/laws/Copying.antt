@@ -206,6 +206,7 @@ module _ (area : Area) (here : ℕ) (bytes : List ℕ) (o t : State) (at : AtPie
   meets_of next to (Next o') (Next u) e w = record {
     last = u;
     passes = passes_one _ t u (inl (shows_of area.added o t at.beside)) e;
+    way = passes_one _ t u (keeps_same area t.memory) e;
     alike = beside_of o' u w.0;
     keeps = w.0.memory.keeps;
     arrives = (w.1, w.2);
@@ -218,7 +219,9 @@ module _ (area : Area) (here : ℕ) (bytes : List ℕ) (o t : State) (at : AtPie
     last = t;
     stopped = u;
     passes = passes_none _ t;
+    way = passes_none _ t;
     shows = shows_of area.added o t at.beside;
+    kept = keeps_same area t.memory;
     stops = subst (λ v. step t ≡ Stopped v u) w.0 e;
     alike = beside_of o' u w.1;
     keeps = w.1.memory.keeps;

@@ -37,6 +37,7 @@ pub joins : (area : Area) (o t : State) (here to : ℕ) → StandsIn area t.memo
 joins area o t here to s at low w = record {
   last = record t { eip = to };
   passes = passes_one _ t (record t { eip = to }) (inl (shows_of area.added o t w)) (jump_step area t here to s at low);
+  way = passes_one _ t (record t { eip = to }) (keeps_same area t.memory) (jump_step area t here to s at low);
   alike = record { core = w.core; descs = w.descs; calls = w.calls; answers = w.answers; memory = w.memory };
   keeps = keeps_same area t.memory;
   arrives = refl;
@@ -49,6 +50,7 @@ jump_meets area here to next rel o t at low =
     let there : Reaches area 1 (GoesTo ((next + rel) % 2 ^ 32) to) o (record o { eip = (next + rel) % 2 ^ 32 }) t = record {
       last = record t { eip = to };
       passes = passes_one _ t (record t { eip = to }) (inl (shows_of area.added o t w)) (jump_step area t here to at.stands at.place low);
+      way = passes_one _ t (record t { eip = to }) (keeps_same area t.memory) (jump_step area t here to at.stands at.place low);
       alike = record { core = w.core; descs = w.descs; calls = w.calls; answers = w.answers; memory = w.memory };
       keeps = keeps_same area t.memory;
       arrives = (refl, refl);

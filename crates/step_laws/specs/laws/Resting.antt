@@ -10,7 +10,7 @@ use Rattle.x86_insn.specs.Step.{step}
 use Rattle.step_laws.specs.Passes.{Passes}
 use Rattle.step_laws.specs.Keeping.{KeepsCells, KeepsRest}
 use Rattle.step_laws.specs.Beside.{shown, Beside, ShowsSame, StatesBeside}
-use Rattle.step_laws.specs.Meeting.{Area, HasArea, Keeps, Reaches, Breaks}
+use Rattle.step_laws.specs.Meeting.{Area, HasArea, Keeps, AllKeep, Reaches, Breaks}
 use Rattle.step_laws.specs.laws.Passing.{passes_weaker}
 use Rattle.step_laws.specs.laws.Putting.{marks_executable}
 use Rattle.step_laws.specs.laws.Logs.{stored}
@@ -47,6 +47,10 @@ module _ (area : Area) (o t : State) (there : HasArea area t.memory) (w : States
     outside = (cells_beside area t.memory there o.memory u.memory w.memory k.memory).outside;
   }
 
+  -- and leaves the area
+  pub rest_keeps : (n : ℕ) (last : State) → Passes (KeepsRest area.scratch t) n t last → AllKeep area t.memory n t last
+  rest_keeps n last p = passes_weaker (KeepsRest area.scratch t) (λ v. Keeps area t.memory v.memory) (λ v k. cells_keep area t.memory there v.memory k.memory) n t last p
+
   -- nothing lies at or above 2^32
   pub rest_top : IsMemory o.memory → (a : ℕ) → 2 ^ 32 ≤ a → t.memory a ≡ None
   rest_top h a high = go (area.added a) refl
@@ -66,6 +70,7 @@ module _ (area : Area) (o t : State) (there : HasArea area t.memory) (w : States
   rest_reaches n Arrives o' last p k core descs calls answers memory arrives = record {
     last = last;
     passes = passes_weaker (KeepsRest area.scratch t) (λ u. ShowsSame area.added o u ⊎ ShowsSame area.added o' u) (λ u k. inl (rest_shows u k)) n t last p;
+    way = rest_keeps n last p;
     alike = record {
       core = core;
       descs = k.descs ∙ w.descs ∙ sym descs;
@@ -85,7 +90,9 @@ module _ (area : Area) (o t : State) (there : HasArea area t.memory) (w : States
     last = last;
     stopped = last;
     passes = passes_weaker (KeepsRest area.scratch t) (ShowsSame area.added o) rest_shows k t last p;
+    way = rest_keeps k last p;
     shows = rest_shows last kept;
+    kept = cells_keep area t.memory there last.memory kept.memory;
     stops = stops;
     alike = record { core = core; descs = kept.descs ∙ w.descs; calls = kept.calls ∙ w.calls; answers = kept.answers ∙ w.answers; memory = cells_beside area t.memory there o.memory last.memory w.memory kept.memory };
     keeps = cells_keep area t.memory there last.memory kept.memory;
