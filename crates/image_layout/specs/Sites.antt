@@ -6,7 +6,7 @@ use Rattle.call_rewrite.specs.Far.{load_of}
 use Rattle.superset.specs.declared.site.Site.{Site}
 use Rattle.sequence_join.specs.Chains.{Chain}
 
--- a site's instruction has at most 15 bytes, and its operand is loaded by at most 7
+-- a site's instruction has at most 15 bytes, and its operand is loaded by at most 8
 pub record IsShort (s : Site) : Type 0 where
   pub short : s.len ≤ 15
   pub load : length (load_of s.insn) ≤ 8
