@@ -11,3 +11,5 @@ pub mod Found
 pub mod Samples
 pub mod Lines
 pub mod Counts
+pub mod Passing
+pub mod Loads

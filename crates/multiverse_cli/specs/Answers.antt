@@ -7,7 +7,10 @@ use Rattle.multiverse_cli.specs.declared.refusal.Defect.{Defect}
 use Rattle.multiverse_cli.specs.Commands.{NewFile, Delivery, Lacks, Delivers}
 use Rattle.multiverse_cli.specs.Outside.{Stored, Printed, IsReadFault, IsWriteFault, IsSinkFault, HasReadFault, HasWriteFault, HasSinkFault, KeepsAll, KeepsOthers, Held, Holds, HeldAs, SaysAll, SaysPart, Says}
 use Rattle.multiverse_cli.specs.Texts.{usage_message, read_message, size_message, write_message, memory_message, defect_message, defect_status}
-use Rattle.multiverse_cli.specs.Words.{Asked, output_of}
+use Rattle.multiverse_cli.specs.Words.{Asked, ToCheck, output_of}
+use Rattle.image_layout.specs.Rules.{Rules}
+use Rattle.mv_base.specs.Bytes.{AreBytes}
+use Rattle.mv_rewrite.specs.Upgrading.{HasOutput}
 
 -- ---- the files that a command reads
 
@@ -276,3 +279,37 @@ DeliversAll NoRoom asked s k = Unit {0}
 DeliversAll WriteFault asked s k = Unit {0}
 DeliversAll SinkFault asked s k = Unit {0}
 DeliversAll NoMemory asked s k = Unit {0}
+
+-- ---- what a check says of outputs
+
+-- a check whose files, where the store tells, held an image and its output by some rules
+pub record ChecksOutput (a : Asked) (s : Stored) : Type 0 where
+  pub is_check : a.work ≡ ToCheck
+  pub tells : IsTrue s.tells
+  pub image : List ℕ
+  pub written : List ℕ
+  pub read : AreRead s a.reads (image ∷ written ∷ [])
+  pub which : Rules
+  pub is_output : HasOutput image which written
+  pub bytes : AreBytes written
+
+-- the answer is a yes, unless something outside failed or memory ran out
+abbrev pub SaysYes : Status → Type 0
+SaysYes Done = Unit {0}
+SaysYes Usage = ⊥
+SaysYes ReadFault = Unit {0}
+SaysYes TooLarge = ⊥
+SaysYes BadSource = ⊥
+SaysYes Differs = ⊥
+SaysYes NoFrame = ⊥
+SaysYes BadImage = ⊥
+SaysYes BadLog = ⊥
+SaysYes NoRoom = ⊥
+SaysYes WriteFault = ⊥
+SaysYes SinkFault = Unit {0}
+SaysYes NoMemory = Unit {0}
+
+-- an output passes a check beside its image
+abbrev pub PassesOutputs : Status → Option Asked → Stored → Type 0
+PassesOutputs status None s = Unit {0}
+PassesOutputs status (Some a) s = ChecksOutput a s → SaysYes status

@@ -3,6 +3,7 @@ pub mod Answers
 pub mod Commands
 pub mod Failures
 pub mod Listing
+pub mod Loads
 pub mod Outside
 pub mod Sample
 pub mod Steps

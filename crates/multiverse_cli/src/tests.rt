@@ -3,6 +3,7 @@
 //! A row is plain values: words, files and numbers. `answer` alone holds a store and a sink; it makes them of a row's values and
 //! gives plain values back.
 
+mod checks;
 mod counters;
 mod files;
 mod hostile;

@@ -157,7 +157,7 @@ fn counting<'a>(
     requires reads { length reads.now ≡ 1 }
     requires ruled { IfSome rules IsRuled }
     ensures is { option_map asked result ≡ counting_asked command.now (texts reads.now) output.now
-        (option_map named rules) }
+        (option_map named rules.entry) }
     ensures inputs { IfSome result (λ c. length c.reads.now ≡ input_count (work_of c.task)) }
     ensures sized { IfSome result (λ c. HasSize (work_of c.task)) }
     ensures ruled { IfSome result (λ c. HasRule c.task) }

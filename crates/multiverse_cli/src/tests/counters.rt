@@ -131,6 +131,30 @@ fn counted() -> [Row; 5] {
     ]
 }
 
+/// Branches and loops with two counters: `dec ecx` from 3 until it is 0, and a branch of which both ways lead to one address.
+fn edges() -> [Row; 2] {
+    [
+        Row {
+            code: b"\xb9\x03\0\0\0\x49\x75\xfd\xf4",
+            words: "rewrite a b --edges=at:0804805a",
+            last: "counters 2\n",
+            counts: "taken 0804805a 2\nnottaken 0804805a 1\n",
+            state: "regs 00000000 00000000 00000000 00000000 bfffefe0 00000000 00000000 00000000\nflags 00000246\n",
+            end: "end trap protection\nsteps 7\n",
+            rewritten: "end trap protection\nsteps 31\n",
+        },
+        Row {
+            code: b"\x74\0\xf4",
+            words: "rewrite a b --edges=all",
+            last: "counters 2\n",
+            counts: "nottaken 08048054 1\n",
+            state: AT_REST,
+            end: "end trap protection\nsteps 1\n",
+            rewritten: "end trap protection\nsteps 9\n",
+        },
+    ]
+}
+
 /// Whether a row's code, and its rewritten form, have its lines.
 fn is_met(alloc: Global, row: &Row) -> Result<bool, Fail> {
     let file = file_of(alloc, row.code)?;
@@ -146,8 +170,8 @@ fn is_met(alloc: Global, row: &Row) -> Result<bool, Fail> {
 
 #[test]
 fn faults_and_counters(rt: HostRuntime) -> Result<(), Fail> {
-    let (faults, counted) = (faults(), counted());
-    for rows in [faults.as_slice(), counted.as_slice()] {
+    let (faults, counted, edges) = (faults(), counted(), edges());
+    for rows in [faults.as_slice(), counted.as_slice(), edges.as_slice()] {
         for row in rows {
             assert!(rt; is_met(rt.alloc(), row)?, "{:?} {}", row.code, row.words);
         }

@@ -7,7 +7,7 @@ use mv_rewrite::FILE_LIMIT;
 use std::test::Fail;
 
 /// Words that ask for nothing.
-static USAGE: [&str; 34] = [
+static USAGE: [&str; 42] = [
     "",
     "rewrite",
     "rewrite a",
@@ -18,6 +18,11 @@ static USAGE: [&str; 34] = [
     "rewrite  b",
     "rewrite a --b",
     "Rewrite a b",
+    "rewrite a b --edges=all --count=all",
+    "rewrite a b --edges=all --edges=all",
+    "rewrite a b --edges=calls",
+    "rewrite a b --count=all --edges=",
+    "rewrite a b --edges=at:08048059,08048059",
     "trace a b",
     "trace a b ",
     "trace a b 01",
@@ -42,6 +47,9 @@ static USAGE: [&str; 34] = [
     "upgrade a b --count=all",
     "upgrade  b",
     "upgrade a --b",
+    "check a",
+    "check a b b",
+    "check a --b",
 ];
 
 #[test]

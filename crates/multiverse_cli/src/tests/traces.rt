@@ -73,6 +73,39 @@ const COMPILED: Head = Head {
     ],
 };
 
+/// Maps 64 bytes of code, and behind them a counter of 8 bytes and 64 private bytes, which may be written.
+const COUNTER: Head = Head {
+    entry: 0x0804_8074,
+    count: 2,
+    headers: &[
+        [1, 0x74, 0x0804_8074, 64, 64, 5],
+        [1, 0xb4, 0x0805_00b4, 8, 72, 6],
+    ],
+};
+
+/// `stc`, `mov ecx,5`, the 46 bytes that count one more, `mov eax` from the counter's low word, `mov edx` from its high one and
+/// `hlt`; then the counter, which wraps in nine steps, and goes from 5 to 6 in seven.
+static COUNTERS: [Row; 2] = [
+    Row {
+        head: Some(COUNTER),
+        code: b"\xf9\xb9\x05\0\0\0\x89\x0d\xbc\0\x05\x08\x8b\x0d\xb4\0\x05\x08\x8d\x49\x01\x89\x0d\xb4\0\x05\x08\xe3\x02\xeb\x0f\x8b\x0d\xb8\0\x05\x08\x8d\x49\x01\x89\x0d\xb8\0\x05\x08\x8b\x0d\xbc\0\x05\x08\xa1\xb4\0\x05\x08\x8b\x15\xb8\0\x05\x08\xf4\xff\xff\xff\xff\xff\xff\xff\xff",
+        log: "log 1\n",
+        words: "trace a l 100",
+        state: "regs 00000000 00000005 00000000 00000000 bfffefe0 00000000 00000000 00000000\nflags 00000203\n",
+        end: "end trap protection\nsteps 13\n",
+        rewritten: "",
+    },
+    Row {
+        head: Some(COUNTER),
+        code: b"\xf9\xb9\x05\0\0\0\x89\x0d\xbc\0\x05\x08\x8b\x0d\xb4\0\x05\x08\x8d\x49\x01\x89\x0d\xb4\0\x05\x08\xe3\x02\xeb\x0f\x8b\x0d\xb8\0\x05\x08\x8d\x49\x01\x89\x0d\xb8\0\x05\x08\x8b\x0d\xbc\0\x05\x08\xa1\xb4\0\x05\x08\x8b\x15\xb8\0\x05\x08\xf4\x05\0\0\0\0\0\0\0",
+        log: "log 1\n",
+        words: "trace a l 100",
+        state: "regs 00000006 00000005 00000000 00000000 bfffefe0 00000000 00000000 00000000\nflags 00000203\n",
+        end: "end trap protection\nsteps 11\n",
+        rewritten: "",
+    },
+];
+
 /// Programs that use no table of addresses.
 static DIRECT: [Row; 12] = [
     Row {
@@ -454,6 +487,7 @@ fn first_wrong(alloc: Global, rows: &[Row]) -> Result<Option<usize>, Fail> {
 #[test]
 fn programs_are_traced(rt: HostRuntime) -> Result<(), Fail> {
     assert_eq!(rt; first_wrong(rt.alloc(), &DIRECT)?, None);
+    assert_eq!(rt; first_wrong(rt.alloc(), &COUNTERS)?, None);
     Ok(())
 }
 

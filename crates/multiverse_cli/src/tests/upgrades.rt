@@ -50,7 +50,7 @@ const FILE_LEN: usize = 0x4000;
 const RULE_PLACE: usize = 0x900 + 4 * 16;
 
 /// The file of the first release, with this input.
-fn first_release(alloc: Global, input: &[u8]) -> Result<Vec<u8>, Fail> {
+pub(super) fn first_release(alloc: Global, input: &[u8]) -> Result<Vec<u8>, Fail> {
     let len = u32::try_from(input.len()).ok().ok_or("a length")?;
     let mut file = file_with(alloc, 0x0010_0000, 4, &HEADERS, b"")?;
     file.resize(0x900, 0)?;

@@ -2,6 +2,8 @@
 use Rattle.multiverse_cli.proofs.Counts.{owed-of}
 use Rattle.multiverse_cli.proofs.Due.{due-of}
 use Rattle.multiverse_cli.proofs.Meaning.{comes-of, leaves-of, prints-of, delivers-of}
+use Rattle.multiverse_cli.proofs.Loads.{loads-of}
+use Rattle.multiverse_cli.proofs.Passing.{passes-of}
 use Rattle.multiverse_cli.proofs.run.run.Goals as goal
 
 pub returns-clause-comes : goal.returns-clause-comes
@@ -23,3 +25,10 @@ returns-clause-prints g c = prints-of _ _ _ _ _ c.attempt-outcome.ensures.attemp
 
 pub returns-clause-delivers : goal.returns-clause-delivers
 returns-clause-delivers g c = delivers-of _ _ _ _ _ c.attempt-outcome.ensures.attempts c.report.ensures.reports
+
+pub returns-clause-loads : goal.returns-clause-loads
+returns-clause-loads g c = loads-of c.operands_load.ensures
+
+pub returns-clause-passes : goal.returns-clause-passes
+returns-clause-passes g c =
+    passes-of c.outputs_pass.ensures _ _ _ _ (comes-of _ _ _ _ _ c.attempt-outcome.ensures.attempts c.report.ensures.reports)
