@@ -190,13 +190,13 @@ fn changed_outputs_differ(rt: HostRuntime) -> Result<(), Fail> {
     Ok(())
 }
 
-/// `EXIT` behind two headers, of which the second maps 32 bytes in two pages that its block has for the other.
+/// `EXIT` behind two headers, of which the first maps 32 bytes in two pages that the block of the other image has.
 const IN_THE_BLOCK: Head = Head {
     entry: 0x0804_8074,
     count: 2,
     headers: &[
+        [1, 0xff0, 0x0010_2ff0, 0, 0x20, 6],
         [1, 0x74, 0x0804_8074, 12, 12, 5],
-        [1, 0, 0x0010_2ff0, 0, 0x20, 6],
     ],
 };
 
