@@ -1,10 +1,9 @@
 -- What is found in a pair of files, put together.
 use Rattle.std.proofs.Common.{◌≡◌, ℕ, ◌≤◌, List, length, Option, Some, None, refl, sym, ap, ◌∙◌, subst, arith}
 use mathlib.Core.Path.{fun_ext}
-use Rattle.std.specs.Prelude.{Result, Ok, Err, IfOk, IfErr}
+use Rattle.std.specs.Prelude.{Result, Ok, Err, IfOk}
 use Rattle.std.specs.Option.{option_or}
 use Rattle.std.specs.List.{filter_map}
-use Rattle.std.proofs.lemmas.Option.{none-some, same_Some}
 use Rattle.mv_base.specs.Bytes.{AreBytes}
 use Rattle.elf32_read.specs.declared.fault.ImageFault.{ImageFault}
 use Rattle.elf32_read.specs.declared.run.Run.{Run}
@@ -16,16 +15,12 @@ use Rattle.elf32_read.specs.RunCount.{bytes_len-runs_of, code_size-admitted, len
 use Rattle.elf32_read.specs.Runs.{runs_of, code_of, AreSpread}
 use Rattle.elf32_read.specs.Segments.{code_of-runs_of, AreApart-runs_of, AreSpread-apart}
 use Rattle.elf32_read.specs.Whole.{or_else-none}
-use Rattle.elf32_read.specs.Fields.{entry_at}
-use Rattle.elf32_write.specs.File.{file_of}
-use Rattle.elf32_write.specs.Plans.{plan_of}
 use Rattle.elf32_write.specs.Frame.{Frame, frame, counted}
 use Rattle.superset.specs.Sites.{addresses, sites_in}
 use Rattle.simulation_laws.specs.Code.{site_at, code_in}
 use Rattle.simulation_laws.specs.Stopping.{Simulates}
 use Rattle.image_layout.specs.laws.SiteFacts.{length-addresses}
 use Rattle.pair_check.specs.declared.checking.CheckFault.{CheckFault}
-use Rattle.pair_check.specs.declared.checking.CheckFault.TheVariants as fault
 use Rattle.pair_check.specs.declared.differs.Differs.{Differs}
 use Rattle.pair_check.specs.Parts.{parts_differ, sites_differ, pairs_differ, differs}
 use Rattle.pair_check.specs.Checking.{Compares, IsChecked}

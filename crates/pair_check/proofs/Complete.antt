@@ -1,9 +1,9 @@
 -- In the output of an input by rules nothing differs.
-use Rattle.std.proofs.Common.{◌≡◌, ℕ, zero, suc, ◌+◌, ◌-◌, ◌*◌, ◌/◌, ◌<◌, ◌≤◌, inl, inr, Bool, true, false, ◌==◌, ◌&&◌, max, List, [], ◌∷◌, ◌++◌, length, map, drop, Option, Some, None, nat_le, nat_lt, cond, if◌then◌else◌, refl, sym, ap, ◌∙◌, subst, arith, length-append, ◌⊎◌, get_or}
+use Rattle.std.proofs.Common.{◌≡◌, ℕ, zero, suc, ◌+◌, ◌-◌, ◌*◌, ◌/◌, ◌<◌, ◌≤◌, inl, inr, Bool, true, false, ◌==◌, ◌&&◌, max, List, [], ◌∷◌, ◌++◌, length, drop, Option, Some, None, nat_le, nat_lt, if◌then◌else◌, refl, sym, ap, ◌∙◌, subst, arith, length-append, ◌⊎◌, get_or}
 use Rattle.std.specs.Prelude.{slice_index, slice_get, is_some, not}
-use Rattle.std.specs.List.{list_all, filter, filter_map, cons_option}
+use Rattle.std.specs.List.{list_all, filter_map, cons_option}
 use Rattle.std.specs.Option.{option_or, option_map}
-use Rattle.std.proofs.lemmas.Bool.{and_parts, and_from, leb-true, ltb-true, le-leb, lt-ltb, le-ltb, eq-eqb, ne_eqb, true≢false, cases_lt}
+use Rattle.std.proofs.lemmas.Bool.{and_parts, and_from, leb-true, ltb-true, le-leb, le-ltb, eq-eqb, ne_eqb, true≢false, cases_lt}
 use Rattle.std.proofs.lemmas.List.{length-drop, get_or-drop, get_or_append_left, get_or-append-add}
 use Rattle.std.proofs.lemmas.Option.{none-some, same_Some}
 use Rattle.mv_base.specs.Memory.{within, exec_byte, exec_byte_of, exec_bytes, is_writable}

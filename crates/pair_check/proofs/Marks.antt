@@ -5,12 +5,9 @@ use Rattle.std.proofs.lemmas.Option.{slice_get-get_or, same_Some}
 use Rattle.std.proofs.lemmas.Bool.{eq-eqb, eqb-true, ltb-true, lt-ltb, ne_eqb, and_from, and_parts, cases_lt}
 use Rattle.std.proofs.lemmas.List.{drop_more, drop_all, get_or-set_same, get_or-set_other, length-set}
 use Rattle.elf32_write.specs.Frame.{Frame, IsBefore, counted, pair_at}
-use Rattle.superset.specs.declared.site.Site.{Site}
 use Rattle.simulation_laws.specs.Code.{site_at}
 use Rattle.simulation_laws.specs.Pieces.{counter_in}
-use Rattle.simulation_laws.specs.Relocated.{kind_of}
 use Rattle.simulation_laws.specs.laws.Counters.{length-counted, counted_is}
-use Rattle.pair_check.specs.declared.differs.Differs.{Differs}
 use Rattle.pair_check.specs.declared.differs.Part.TheVariants.{Counted}
 use Rattle.pair_check.specs.Parts.{differs_at, is_behind, is_way, other_way, has_other, counts_site, is_counting, last_address, pairs_differ}
 use Rattle.pair_check.specs.Walking.{pair_before, IsOrdered, IsPlace, is_other, AreMarked, AreMarks}

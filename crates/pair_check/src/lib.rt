@@ -16,6 +16,3 @@ mod sites;
 
 pub use checking::{CheckFault, check};
 pub use differs::{Differs, Part};
-
-#[cfg(test)]
-mod tests;

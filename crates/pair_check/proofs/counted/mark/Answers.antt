@@ -1,5 +1,4 @@
-use Rattle.std.proofs.Common.{◌≡◌, ◌∙◌, sym, ap, arith}
-use Rattle.elf32_write.specs.Frame.{pair_at}
+use Rattle.std.proofs.Common.{◌∙◌, sym, ap, arith}
 use Rattle.pair_check.proofs.Marks.{not_there, marked, no_way}
 use Rattle.pair_check.proofs.counted.mark.Goals.{else-there-wanted-via-then-there-wanted+else-there-wanted-2, else-there-wanted-via-else-there-wanted}
 use Rattle.pair_check.proofs.counted.mark.Goals as goal

@@ -1,4 +1,4 @@
-use Rattle.std.proofs.Common.{◌≡◌, ◌∙◌, false, sym, ap, arith}
+use Rattle.std.proofs.Common.{arith}
 use Rattle.pair_check.proofs.Marks.{marking_starts, marking_goes, marking_ends, none_set}
 use Rattle.pair_check.proofs.counted.others.Goals as goal
 

@@ -1,6 +1,5 @@
-use Rattle.std.proofs.Common.{◌≡◌, ◌∙◌, true, false, sym, ap, arith}
+use Rattle.std.proofs.Common.{◌≡◌, ◌∙◌, sym, ap, arith}
 use Rattle.elf32_read.specs.Runs.{code_of}
-use Rattle.elf32_write.specs.Frame.{pair_at}
 use Rattle.simulation_laws.specs.Code.{site_at}
 use Rattle.pair_check.specs.Parts.{counts_site}
 use Rattle.pair_check.proofs.Marks.{right_goes, wrong_site, wrong_order, none_wrong, right_at, way_has}

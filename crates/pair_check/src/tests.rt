@@ -1,1 +1,0 @@
-//! The worked example with its output, and that output with bytes changed.
