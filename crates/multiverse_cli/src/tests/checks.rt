@@ -17,7 +17,8 @@ fn patched(alloc: Global, file: &[u8], patches: Patches) -> Result<Vec<u8>, Fail
     let mut other = Vec::from_slice(alloc, file)?;
     for (place, bytes) in patches {
         for (k, byte) in bytes.iter().enumerate() {
-            *other.get_mut(*place + k).ok_or("a place")? = *byte;
+            let at = place.checked_add(k).ok_or("a place")?;
+            *other.get_mut(at).ok_or("a place")? = *byte;
         }
     }
     Ok(other)
