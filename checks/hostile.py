@@ -16,11 +16,13 @@ import glob, os, random, re, resource, struct, subprocess, sys, time
 import oracles
 from decode import expected
 from oracles import BLOCK_FROM, CODE_LIMIT, FILE_LIMIT, LOAD, MAPPED_LIMIT, PAGE, R, RULES, VERSIONS, W, X
+from outputs import checked
 
 HERE = os.path.dirname(os.path.abspath(__file__))
 STEPS, SHOWN, SMALL, LARGE = 20000, 20, 65536, 1 << 20
 OLD = b"what OUT held before"
 WRITTEN_VERSION = 2
+SMALL_IMAGE = oracles.small_image(bytes.fromhex("b801000000bb07000000cd80"))
 
 
 class Check:
@@ -157,10 +159,11 @@ def judge(check, image, log=b"log 1\n"):
     """One image: rewritten, listed and traced, each answer compared."""
     write("in", image), write("out", OLD), write("log", log)
     fault = oracles.fault(image)
-    option = check.rng.choice(([], [], ["--count=all"], ["--count=branches"]))
+    chosen = check.rng.choice(([], [], ["--count=all"], ["--count=branches"], ["--edges=all"], ["--count=all", "--edges=all"],
+                               ["--count=none", "--edges=none"]))
     if not fault and executable(image) > LARGE:
-        option = []  # counters at each of millions of sites would make a file of a gigabyte
-    status, text = check.run("rewrite", "in", "out", *option)
+        chosen = []  # counters at each of millions of sites would make a file of a gigabyte
+    status, text = check.run("rewrite", "in", "out", *chosen)
     check.count(fault.split()[0] if fault else "rewritten" if status == 0 else "no room")
     if fault:
         check.want("rewrite", (status, text), (5, f"multiverse: bad image: {fault}\n"))
@@ -176,10 +179,15 @@ def judge(check, image, log=b"log 1\n"):
             check.differ(f"no room: {text}", "in")
         check.want("OUT of a refusal", read("out"), OLD)
     else:
-        rewritten(check, image, option, status, text)
+        rewritten(check, image, chosen, status, text)
 
 
-def rewritten(check, image, option, status, text):
+def number_of(chosen, name):
+    """The number of the rule that is chosen by the option of a name; 0 without it."""
+    return next((RULES.index(option.split("=")[1]) for option in chosen if option.startswith(f"--{name}=")), 0)
+
+
+def rewritten(check, image, chosen, status, text):
     output = read("out")
     frame = oracles.read_frame(output)
     printed = re.fullmatch(r"sites (\d+)\nadded ([0-9a-f]{8}) ([0-9a-f]{8})\ncounters (\d+)\n", text)
@@ -191,12 +199,14 @@ def rewritten(check, image, option, status, text):
     check.want("counters", (int(printed[4]), sorted(set(frame.list))), (frame.counters, frame.list))
     check.want("input in OUT", output[0x1000:0x1000 + len(image)], image)
     check.want("runs", [(run, size) for run, size, _ in frame.runs], [(at, len(code)) for at, code in oracles.runs(image)])
-    check.want("version and rules", (frame.version, frame.form, frame.rule, frame.edge_rule, {kind for _, kind in frame.list} - {0}),
-               (WRITTEN_VERSION, 2, RULES.index(option[0][8:]) if option else 0, 0, set()))
+    rule, edge_rule = number_of(chosen, "count"), number_of(chosen, "edges")
+    check.want("version and rules", (frame.version, frame.form, frame.rule, frame.edge_rule), (WRITTEN_VERSION, 2, rule, edge_rule))
+    check.want("kinds", {kind for _, kind in frame.list} <= {*[0] * (rule > 0), *[1, 2] * (edge_rule > 0)}, True)
     if executable(image) <= 3000:
         placed(check, image, frame, sites)
-    if not option or option == ["--count=all"]:
-        check.want("counters", frame.counters, sites if option else 0)
+    if rule < 2:
+        check.want("counters", sum(kind == 0 for _, kind in frame.list), sites if rule else 0)
+    check.want("check", check.run("check", "in", "out"), (0, f"checked {sites}\n"))
     trace(check, image, "in", frame)
     check.want("extract", check.run("extract", "out", "back"), (0, f"input {len(image)}\n"))
     check.want("what is extracted", read("back") == image, True)
@@ -256,7 +266,7 @@ def trace(check, image, name, frame=None):
         return
     status, after = check.run("trace", "out", "log", str(100 * STEPS))
     without = lambda lines: [re.sub(r"^end (outside|trap fetch .*)$", "end outside or fetch", line) for line in lines
-                             if not line.startswith(("steps ", "count "))]
+                             if not line.startswith(("steps ", "count ", "taken ", "nottaken "))]
     check.want("the output's trace", (status, without(after.splitlines())), (0, without(lines)))
 
 
@@ -341,18 +351,22 @@ def judge_output(check, file):
         check.want("OUT of a refusal", read("out"), OLD)
     elif executable(image) <= LARGE:
         upgraded(check, oracles.read_frame(file), image)
+    if image is None or fault or executable(image) <= 3000:
+        write("was", SMALL_IMAGE if image is None else image)
+        check.want("check", check.run("check", "was", "in"), checked(read("was"), file))
 
 
 def upgraded(check, frame, image):
-    """An image without a fault, in a frame: upgraded to what it is rewritten to by the frame's rule."""
-    option = oracles.option(frame)
+    """An image without a fault, in a frame: upgraded to what it is rewritten to by the frame's rules."""
+    options = oracles.options(frame)
     write("was", image), write("new", OLD), write("out", OLD)
-    wanted = check.run("rewrite", "was", "new", option or "--count=none")
+    wanted = check.run("rewrite", "was", "new", *(options or ()))
     given = check.run("upgrade", "in", "out")
     output = bytearray(read("new"))
     if wanted[0] == 0:
-        struct.pack_into("<I", output, oracles.RULE_PLACE, frame.rule)  # listed addresses are a rule where none is listed, too
-    if option:
+        # listed addresses are a rule where none is listed, too
+        struct.pack_into("<II", output, oracles.RULE_PLACE, frame.rule, frame.edge_rule)
+    if options:
         check.want("upgrade", given, wanted)
         check.want("what is upgraded", read("out") == output, True)
     elif given[0] not in (0, 6):
@@ -363,7 +377,8 @@ def upgraded(check, frame, image):
 
 PARTS = ("rewrite", "trace", "list", "sample", "in", "out", "log", "", "-", "--", "--count", "--count=all", "--count=none", "--count=",
          "--count=at:", "--count=at:08048054", "--count=at:08048054,08048054", "--count=at:08048055,08048054", "--count=at:0804805A",
-         "--count=calls", "--count=All", "0", "1", "00", "01", "-1", "+1", "1 ", "4", "1048576", "1048577", "4294967295", "4294967296",
+         "--count=calls", "--count=All", "--edges", "--edges=all", "--edges=none", "--edges=", "--edges=at:", "--edges=at:08048054",
+         "--edges=at:08048054,08048055", "--edges=at:08048055,08048054", "--edges=calls", "--edges=branches", "0", "1", "00", "01", "-1", "+1", "1 ", "4", "1048576", "1048577", "4294967295", "4294967296",
          "18446744073709551615", "18446744073709551616", "184467440737095516150", "0x10", "\u0661", "a b", "extract", "upgrade",
          "check", "assemble", "in\n", "\u00e9")
 
@@ -381,7 +396,7 @@ def judge_words(check, words):
         check.count("no command")
 
 
-FREE = ("rewrite", "trace", "list", "sample", "extract", "upgrade")
+FREE = ("rewrite", "trace", "list", "sample", "extract", "upgrade", "check")
 
 
 def some_words(rng):
@@ -389,9 +404,11 @@ def some_words(rng):
     if shape == "any":
         return rng.choices(PARTS, k=rng.randrange(6))
     words = {"rewrite": ["rewrite", "in", "out"], "trace": ["trace", "in", "log", "9"], "list": ["list", "in"],
-             "sample": ["sample", "7", "100", "out"], "extract": ["extract", "in", "out"], "upgrade": ["upgrade", "in", "out"]}[shape]
-    if shape == "rewrite" and rng.random() < .7:
-        words.append(rng.choice([part for part in PARTS if part.startswith("--count")]))
+             "sample": ["sample", "7", "100", "out"], "extract": ["extract", "in", "out"], "upgrade": ["upgrade", "in", "out"],
+             "check": ["check", "in", "out"]}[shape]
+    for option in ("--count", "--edges") if rng.random() < .9 else ("--edges", "--count"):
+        if shape == "rewrite" and rng.random() < .6:
+            words.append(rng.choice([part for part in PARTS if part.startswith(option)]))
     for _ in range(rng.choice((0, 1, 1, 2))):
         kind, at = rng.randrange(3), rng.randrange(1, len(words) + 1)
         if kind == 0 and at < len(words):
@@ -444,7 +461,8 @@ def devices(check):
     for words, name in ((("rewrite", "no", "out"), "no"), (("rewrite", "folder", "out"), "folder"), (("list", "no"), "no"),
                         (("trace", "no", "nolog", "1"), "no"), (("trace", "in", "nolog", "1"), "nolog"), (("trace", "folder", "log", "1"), "folder"),
                         (("extract", "no", "out"), "no"), (("extract", "folder", "folder"), "folder"),
-                        (("upgrade", "no", "no/out"), "no")):
+                        (("upgrade", "no", "no/out"), "no"), (("check", "no", "whole"), "no"), (("check", "in", "no"), "no"),
+                        (("check", "no", "nolog"), "no"), (("check", "in", "folder"), "folder"), (("check", "folder", "no"), "folder")):
         check.want(words, check.run(*words), (3, missing(name)))
     for words in (("rewrite", "in"), ("sample", "1", "9"), ("extract", "whole"), ("upgrade", "whole")):
         for name in ("folder", "no/out"):
@@ -453,13 +471,13 @@ def devices(check):
         check.want(words, check.run(*words), (13, "multiverse: no frame\n"))
     with open("/dev/full", "wb") as full:
         for words in (("rewrite", "in", "out"), ("trace", "in", "log", "9"), ("list", "in"), ("sample", "1", "9", "out"),
-                      ("extract", "whole", "out"), ("upgrade", "whole", "out")):
+                      ("extract", "whole", "out"), ("upgrade", "whole", "out"), ("check", "in", "whole")):
             write("out", OLD)
             check.want(f"{words} into /dev/full", check.run(*words, out=full)[0], 9)
             if "out" in words and not (read("out") == image if words[0] == "extract" else oracles.read_frame(read("out"))):
                 check.differ(f"{words}: OUT isn't whole")
         for words, status in ((("rewrite",), 2), (("list", "no"), 3), (("rewrite", "in", "folder"), 4), (("extract", "in", "out"), 13),
-                              (("upgrade", "in", "out"), 13)):
+                              (("upgrade", "in", "out"), 13), (("check", "in", "in"), 13), (("check", "whole", "whole"), 12)):
             check.want(f"{words} into /dev/full", check.run(*words, out=full)[0], status)
     for command, wanted in (("extract", image), ("upgrade", read("whole"))):
         write("out", read("whole"))
@@ -474,9 +492,11 @@ def large_files(check, image):
         large.truncate(FILE_LIMIT + 1)
     too_large = 10, f"multiverse: too large: large above {FILE_LIMIT}\n"
     for words in (("rewrite", "large", "out"), ("list", "large"), ("trace", "large", "log", "1"), ("trace", "in", "large", "1"),
-                  ("extract", "large", "folder"), ("upgrade", "large", "folder")):
+                  ("extract", "large", "folder"), ("upgrade", "large", "folder"), ("check", "large", "in"), ("check", "in", "large"),
+                  ("check", "large", "large")):
         check.want(words, check.run(*words), too_large)
-    check.want("IN before LOG", check.run("trace", "large", "nolog", "1"), (3, "multiverse: cannot read nolog\n"))
+    for words in (("trace", "large", "nolog", "1"), ("check", "large", "nolog")):
+        check.want(words, check.run(*words), (3, "multiverse: cannot read nolog\n"))
     with open("large", "r+b") as large:
         large.truncate(FILE_LIMIT)
         large.write(image)
@@ -505,17 +525,25 @@ def tables(check):
         samples(check, number, size)
 
 
+def framed(check, title):
+    """The output that was just written, as both versions have it."""
+    output = read("out")
+    if oracles.read_frame(output):
+        return [output, remade(output, 1)]
+    check.differ(f"an output by {title} has no frame", "in")
+    return []
+
+
 def outputs(check):
-    """Outputs to start from: one for each rule, as both versions have it, and those of older programs."""
+    """Outputs to start from: one for each rule and some for edge rules, as both versions have it, and those of older programs."""
     image, made = oracles.small_image(bytes.fromhex("e802000000f490f9e301f4b80100000075fecd80c3")), []
     write("in", image)
     for rule in ("at:08048054,0804805b,08048061", *RULES[:-1]):
         check.run("rewrite", "in", "out", f"--count={rule}")
-        output = read("out")
-        if not oracles.read_frame(output):
-            check.differ(f"an output by {rule} has no frame", "in")
-            continue
-        made += [output, remade(output, 1)]
+        made += framed(check, f"--count={rule}")
+    for options in (["--edges=all"], ["--count=all", "--edges=at:0804805c"], ["--count=branches", "--edges=all"]):
+        check.run("rewrite", "in", "out", *options)
+        made += framed(check, " ".join(options))
     return made + [read(path) for path in sorted(glob.glob(os.path.join(HERE, "upgrade.d", "*.v1")))]
 
 

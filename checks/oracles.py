@@ -5,7 +5,7 @@ import re, struct
 PAGE, FILE_LIMIT, CODE_LIMIT, MAPPED_LIMIT, TOP = 4096, 268435456, 16777216, 67108864, 0xFFFFF000
 BLOCK_FROM, BLOCK_TO, STACK_FROM, STACK_TO = 0x00100000, 0xB0000000, 0xBFEFF000, 0xBFFFF000
 LOAD, DYNAMIC, INTERP, X, W, R = 1, 2, 3, 1, 2, 4
-RULES = "none", "all", "calls", "returns", "branches", "system", "at"
+RULES, EDGE_RULES = ("none", "all", "calls", "returns", "branches", "system", "at"), ("none", "all", "at")
 
 
 def up(n):
@@ -22,8 +22,8 @@ def is_decimal(word, most):
     return re.fullmatch(r"0|[1-9][0-9]{0,25}", word) is not None and int(word) <= most
 
 
-def is_rule(word):
-    if word in RULES[:-1]:
+def is_rule(word, named=RULES[:-1]):
+    if word in named:
         return True
     if not re.fullmatch(r"at:[0-9a-f]{8}(,[0-9a-f]{8})*", word):
         return False
@@ -35,14 +35,17 @@ def is_command(words):
     """Whether the words are a command."""
     name, rest = (words[0], words[1:]) if words else (None, [])
     if name == "rewrite":
-        if len(rest) == 3 and rest[2].startswith("--count="):
-            return is_name(rest[0]) and is_name(rest[1]) and is_rule(rest[2][8:])
-        return len(rest) == 2 and all(map(is_name, rest))
+        options = rest[2:]
+        if options and options[0].startswith("--count=") and is_rule(options[0][8:]):
+            del options[0]
+        if options and options[0].startswith("--edges=") and is_rule(options[0][8:], EDGE_RULES[:-1]):
+            del options[0]
+        return len(rest) >= 2 and all(map(is_name, rest[:2])) and not options
     if name == "trace":
         return len(rest) == 3 and is_name(rest[0]) and is_name(rest[1]) and is_decimal(rest[2], 2**64 - 1)
     if name == "list":
         return len(rest) == 1 and is_name(rest[0])
-    if name in ("extract", "upgrade"):
+    if name in ("extract", "upgrade", "check"):
         return len(rest) == 2 and all(map(is_name, rest))
     if name == "sample":
         return (len(rest) == 3 and is_decimal(rest[0], 2**32 - 1) and is_decimal(rest[1], 1048576) and rest[1] != "0"
@@ -199,7 +202,7 @@ def bad_line(log):
 # Frames.
 
 MAGIC, RULE_AT = 0x5246564D, RULES.index("at")
-RULE_PLACE = 0x900 + 4 * 16
+RULE_PLACE = 0x900 + 4 * 16  # the edge rule's number stands behind it
 # of a version: the words in front of the runs, a counter's bytes in the list, the most bytes of an input and of all runs together
 VERSIONS = {1: (16, 4, 67108864, 4194304), 2: (18, 8, 268435456, 16777216)}
 
@@ -275,14 +278,20 @@ def extracted(file):
     return (0, f"input {frame.input}\n", frame.input_bytes) if frame else (13, "multiverse: no frame\n", None)
 
 
-def option(frame):
-    """The option by which `rewrite` counts what a frame's rule picks; None where that has more addresses than an option may have."""
-    if frame.rule != RULE_AT:
-        return f"--count={RULES[frame.rule]}"
-    addresses = sorted({at for at, kind in frame.list if kind == 0})
+def option(name, rule, addresses):
+    """The option for a frame's rule, of which `addresses` are those that it lists; None where an option may not have so many."""
+    if rule != RULE_AT:
+        return f"--{name}={RULES[rule]}"
     if not addresses:
-        return "--count=none"
-    return "--count=at:" + ",".join(f"{at:08x}" for at in addresses) if len(addresses) <= 1024 else None
+        return f"--{name}=none"
+    return f"--{name}=at:" + ",".join(f"{at:08x}" for at in sorted(addresses)) if len(addresses) <= 1024 else None
+
+
+def options(frame):
+    """The options by which `rewrite` counts what a frame's rules pick; None where there are none."""
+    made = [option("count", frame.rule, {at for at, kind in frame.list if kind == 0}),
+            option("edges", frame.edge_rule, {at for at, kind in frame.list if kind == 1})]
+    return None if None in made else made
 
 
 # Samples.
