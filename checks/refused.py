@@ -28,6 +28,7 @@ def third_image():
 IMAGES = {"two and a call": oracles.small_image(bytes.fromhex("b801000000bb07000000cd80")),
           "a trap": oracles.small_image(bytes.fromhex("f7f1")), "a compiler's": third_image()}
 COMMANDS = (("rewrite", "in", "out"), ("rewrite", "in", "out", "--count=all"), ("rewrite", "in", "out", "--count=at:08048054"),
+            ("rewrite", "in", "out", "--edges=all"), ("rewrite", "in", "out", "--count=all", "--edges=at:08048054"), ("check", "in", "whole"),
             ("trace", "in", "log", "100"), ("trace", "whole", "log", "100"), ("list", "in"), ("sample", "7", "64", "out"),
             ("extract", "whole", "out"), ("upgrade", "whole", "out"))
 
