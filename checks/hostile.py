@@ -168,7 +168,8 @@ def judge(check, image, log=b"log 1\n"):
     if fault:
         check.want("rewrite", (status, text), (5, f"multiverse: bad image: {fault}\n"))
         check.want("OUT of a refusal", read("out"), OLD)
-        check.want("list", check.run("list", "in"), (5, f"multiverse: bad image: {fault}\n"))
+        for words in (("list", "in"), ("check", "in", "out"), ("check", "in", "in")):
+            check.want(words, check.run(*words), (5, f"multiverse: bad image: {fault}\n"))
         if not oracles.fault(image, 19):
             trace(check, image, "in")
         else:
