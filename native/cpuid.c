@@ -75,12 +75,9 @@ void cpuids_set(const struct cpuids *cpuids, pid_t pid) {
   for (size_t k = 0; k < cpuids->count; k++) process_force(pid, cpuids->places[k], STOP, sizeof STOP);
 }
 
-bool cpuids_answer(const struct cpuids *cpuids, pid_t pid) {
+bool cpuid_answer(pid_t pid, uint32_t at, uint32_t words[4]) {
   struct user_regs_struct regs;
-  uint32_t at = process_eip(pid) - 1;
-  size_t k = 0;
-  while (k < cpuids->count && cpuids->places[k] != at) k++;
-  if (k == cpuids->count || ptrace(PTRACE_GETREGS, pid, 0, &regs) != 0) return false;
+  if (ptrace(PTRACE_GETREGS, pid, 0, &regs) != 0) return false;
   uint32_t leaf = (uint32_t)regs.rax, eax, ebx, ecx, edx;
   __cpuid_count(leaf, (uint32_t)regs.rcx, eax, ebx, ecx, edx);
   for (size_t m = 0; m < sizeof MASKS / sizeof MASKS[0]; m++) {
@@ -89,10 +86,17 @@ bool cpuids_answer(const struct cpuids *cpuids, pid_t pid) {
     ecx &= MASKS[m].ecx;
     edx &= MASKS[m].edx;
   }
-  regs.rax = eax;
-  regs.rbx = ebx;
-  regs.rcx = ecx;
-  regs.rdx = edx;
+  words[0] = regs.rax = eax;
+  words[1] = regs.rbx = ebx;
+  words[2] = regs.rcx = ecx;
+  words[3] = regs.rdx = edx;
   regs.rip = at + sizeof CPUID;
   return ptrace(PTRACE_SETREGS, pid, 0, &regs) == 0;
+}
+
+bool cpuids_answer(const struct cpuids *cpuids, pid_t pid) {
+  uint32_t at = process_eip(pid) - 1, words[4];
+  size_t k = 0;
+  while (k < cpuids->count && cpuids->places[k] != at) k++;
+  return k < cpuids->count && cpuid_answer(pid, at, words);
 }

@@ -19,4 +19,8 @@ void cpuids_set(const struct cpuids *cpuids, pid_t pid);
 /* Whether a process has stopped at one; then it has the answer, and stands behind it. */
 bool cpuids_answer(const struct cpuids *cpuids, pid_t pid);
 
+/* Gives a stopped process the answer to the CPUID that stands at an address, and sets it behind it; the answer's words for
+   EAX, EBX, ECX and EDX. */
+bool cpuid_answer(pid_t pid, uint32_t at, uint32_t words[4]);
+
 #endif

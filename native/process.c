@@ -4,6 +4,8 @@
 #include <errno.h>
 #include <fcntl.h>
 #include <stdio.h>
+#include <stdlib.h>
+#include <string.h>
 #include <sys/ptrace.h>
 #include <sys/uio.h>
 #include <sys/user.h>
@@ -71,17 +73,23 @@ uint64_t fault_bits(void) {
   return bits;
 }
 
-bool process_catches(pid_t pid, int sig) {
+/* The signals of a line of the process's status, a bit each. */
+static uint64_t status_bits(pid_t pid, const char *field) {
   char name[64], line[256];
-  unsigned long long caught = 0;
+  size_t length = strlen(field);
+  uint64_t bits = 0;
   snprintf(name, sizeof name, "/proc/%d/status", pid);
   FILE *status = fopen(name, "re");
-  if (!status) return false;
+  if (!status) return 0;
   while (fgets(line, sizeof line, status))
-    if (sscanf(line, "SigCgt: %llx", &caught) == 1) break;
+    if (strncmp(line, field, length) == 0) bits = strtoull(line + length, NULL, 16);
   fclose(status);
-  return caught & signal_bit(sig);
+  return bits;
 }
+
+bool process_catches(pid_t pid, int sig) { return status_bits(pid, "SigCgt:") & signal_bit(sig); }
+
+bool process_ignores(pid_t pid, int sig) { return status_bits(pid, "SigIgn:") & signal_bit(sig); }
 
 void process_go_on(pid_t pid, int sig) { ptrace(PTRACE_CONT, pid, 0, (long)sig); }
 

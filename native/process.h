@@ -30,8 +30,9 @@ bool is_fault(const siginfo_t *info);
 /* The signals that an instruction's own fault sends, a bit each. */
 uint64_t fault_bits(void);
 
-/* Whether the process has a handler for a signal. */
+/* Whether the process has a handler for a signal; whether it ignores it. */
 bool process_catches(pid_t pid, int sig);
+bool process_ignores(pid_t pid, int sig);
 
 void process_go_on(pid_t pid, int sig);
 
