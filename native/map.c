@@ -7,6 +7,7 @@
 #include <inttypes.h>
 #include <stdio.h>
 #include <stdlib.h>
+#include <string.h>
 
 struct line {
   uint32_t entry, old;
@@ -36,6 +37,11 @@ static int by_entry(const void *a, const void *b) {
 }
 
 int main(int count, char **words) {
+  if (count == 2 && (strcmp(words[1], "--help") == 0 || strcmp(words[1], "-h") == 0)) {
+    puts("usage: map OUT\n"
+         "Prints a line for each piece of a rewritten file: its address, the old address for which it stands, its length.");
+    return 0;
+  }
   if (count != 2) {
     fprintf(stderr, "usage: map OUT\n");
     return 2;
