@@ -76,6 +76,19 @@ def counted_of(data):
     return {at for at, kind in pairs if kind == 0}, {at for at, kind in pairs if kind == 1}
 
 
+class Sites:
+    """The instructions of a listing by their addresses. A listing has millions of lines, of which few are looked at."""
+
+    def __init__(self, text):
+        self.lines = {int(line[:8], 16): line for line in text.splitlines()}
+
+    def __contains__(self, address):
+        return address in self.lines
+
+    def __getitem__(self, address):
+        return Site(address, *self.lines[address].split(" ", 2)[1:])
+
+
 class Program:
     def __init__(self, name, multiverse, symbols=None):
         self.name, self.counted, self.counted_ways = name, None, None
@@ -88,7 +101,7 @@ class Program:
                 asked([multiverse, "extract", self.name, name])
                 with open(name, "rb") as file:
                     data = file.read()
-            self.sites = self.listed(asked([multiverse, "list", name]))
+            self.sites = Sites(asked([multiverse, "list", name]))
         try:
             elf = ELFFile(io.BytesIO(data))
             self.entry = elf.header["e_entry"]
@@ -103,14 +116,6 @@ class Program:
         except ELFError as fault:
             raise ValueError(f"{symbols or self.name}: {fault}") from None
         self.row_places = [row.address for row in self.rows]
-
-    @staticmethod
-    def listed(text):
-        sites = {}
-        for line in text.splitlines():
-            address, digits, shown = line.split(" ", 2)
-            sites[int(address, 16)] = Site(int(address, 16), digits, shown)
-        return sites
 
     def symbols_of(self, elf):
         """The functions by the symbols, ascending, none in another; empty where there is none."""
