@@ -258,8 +258,11 @@ def page_differs(made, counts, ours, folder):
         return "page: it loads something"
     if browser:
         ran = subprocess.run([browser, "--headless", "--no-sandbox", "--disable-gpu", f"--user-data-dir={folder}/browser", "--dump-dom",
-                              f"file://{name}"], capture_output=True, timeout=180)
-        made = ran.stdout
+                              f"file://{name}"], capture_output=True, timeout=300)
+        if ran.returncode == 0 and b"<html" in ran.stdout:
+            made = ran.stdout
+        elif "a browser that runs" not in SKIPPED:
+            SKIPPED.append("a browser that runs")
     else:
         has("chromium")
     rows = Rows()

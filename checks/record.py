@@ -13,13 +13,13 @@ from trace import ARGUMENTS, HERE, INPUT, LEVELS, OPTIONS, STEPS
 
 STACK_LO, STACK_HI = 0xBFEFF000, 0xBFFFF000  # of a trace
 KERNEL_STACK = range(0xFFF00000, 1 << 32)  # of a program run by itself, without random addresses
-# time, getpid, getppid, gettimeofday, getpgid, clock_gettime, getpgrp: what they answer is another thing each time
-EACH_TIME = {13, 20, 64, 78, 132, 265, 65}
+# time, getpid, getppid, gettimeofday, getpgid, clock_gettime, getpgrp, set_tid_address: what they answer is another thing each time
+EACH_TIME = {13, 20, 64, 78, 132, 265, 65, 258}
 # klibc gives memory back by pages of a size that it asks the auxiliary values for; a trace's start has none, so it gives none back
 MUNMAP = 91
 CALL = re.compile(r"\[ *(\d+)\] \w+\((.*?)\) *(?:= (\?|-?\w+).*)?")
 TEXT = b"some text\nand a second line of it\n" * 40
-MKSH, GUNZIP, BUSYBOX = "/usr/lib/klibc/bin/mksh", "/usr/lib/klibc/bin/gunzip", "/bin/busybox"
+MKSH, LKSH, GUNZIP, BUSYBOX = "/usr/lib/klibc/bin/mksh", "/bin/lksh", "/usr/lib/klibc/bin/gunzip", "/bin/busybox"
 SCRIPTS = ("echo hello", 'x=0; while [ "$x" -lt 50 ]; do x=$((x+1)); done; echo "$x"',
            'f() { echo "$1:$#"; }; f a b; case abc in a*) echo yes ;; esac', 'while read -r line; do echo "<$line>"; done',
            "cd /; pwd; echo $(( 7 * 6 )) ${HOME-none}; exit 5", "no_such_command", "echo $((1/0))")
@@ -155,7 +155,7 @@ def tools(multiverse, record, folder):
     packed = os.path.join(folder, "text.gz")
     with open(packed, "wb") as out:
         subprocess.run(["gzip", "-nc"], input=TEXT, stdout=out, check=True)
-    runs = [[MKSH, "-c", script] for script in SCRIPTS] + [[GUNZIP, "-c", packed], [GUNZIP, "-t", packed]]
+    runs = [[shell, "-c", script] for shell in (MKSH, LKSH) for script in SCRIPTS] + [[GUNZIP, "-c", packed], [GUNZIP, "-t", packed]]
     for words in runs:
         if not is_i386(words[0]):
             skipped += [words[0]] if words[0] not in skipped else []
