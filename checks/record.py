@@ -23,6 +23,7 @@ MKSH, LKSH, GUNZIP, BUSYBOX = "/usr/lib/klibc/bin/mksh", "/bin/lksh", "/usr/lib/
 SCRIPTS = ("echo hello", 'x=0; while [ "$x" -lt 50 ]; do x=$((x+1)); done; echo "$x"',
            'f() { echo "$1:$#"; }; f a b; case abc in a*) echo yes ;; esac', 'while read -r line; do echo "<$line>"; done',
            "cd /; pwd; echo $(( 7 * 6 )) ${HOME-none}; exit 5", "no_such_command", "echo $((1/0))")
+REFUSED = (["/no/such/file"], 127), (["/dev/null"], 126), (["/bin/sh"], 126)  # what can't be run, and the status
 # what can't be recorded, and the word by which that is said
 CUTS = (('trap "echo t" USR1; kill -USR1 $$', "SIGUSR1"), ("echo a | read -r b; echo $b", "SIGCHLD"))
 
@@ -170,6 +171,10 @@ def tools(multiverse, record, folder):
             bad.append(f"{script}: record ends with {ran.returncode} and {ran.stderr}, a trace by its log by {end!r}")
         else:
             agree += 1
+    for words, status in REFUSED:
+        ran = recorded(record, words, b"", os.path.join(folder, "log"))
+        if ran.returncode != status or not ran.stderr.startswith(b"record: "):
+            bad.append(f"{words}: record ends with {ran.returncode} and {ran.stderr}")
     if not is_i386(BUSYBOX):
         return agree, bad, skipped + [BUSYBOX]
     # its start code reads an auxiliary value that a trace's start doesn't have: both end by the same fault

@@ -60,7 +60,7 @@ static pid_t program;
 static FILE *log_file;
 static bool is_recording = true, is_whole; /* lines are still written; the log goes to the program's end */
 static bool in_call, is_again;             /* the call that is under way was interrupted, and is made again */
-static uint32_t number, arguments[5];      /* of the call that is under way */
+static uint32_t number, arguments[2];      /* of the call that is under way */
 static char *answer;                       /* of the last call, until it is known that the program went on behind it */
 static size_t answer_length;
 static uint32_t answer_eip, heap_tail;     /* where unmapped bytes of the page begin in which the program's data end, else 0 */
@@ -357,39 +357,58 @@ static void begin(char **words) {
   ptrace(PTRACE_SETOPTIONS, program, 0, PTRACE_O_TRACESYSGOOD | PTRACE_O_TRACEEXEC | PTRACE_O_EXITKILL);
 }
 
-int main(int count, char **words) {
+static void show_usage(FILE *to) {
+  fputs(
+      "usage: record PROGRAM ARGS.. LOG\n"
+      "Runs PROGRAM, a static executable for i386, and writes the log with which `multiverse trace PROGRAM LOG STEPS`\n"
+      "repeats the run. It starts without an environment and without auxiliary values.\n"
+      "Status 0: the log goes to the program's end; 1: it ends before what no log can tell of, as a line on standard error\n"
+      "says; 125 to 127: the program could not be run. docs/NATIVE.md says what can't be recorded.\n",
+      to);
+}
+
+/* Begins the log: its first line and the arguments. */
+static void open_log(const char *name, char **words) {
+  log_file = fopen(name, "we");
+  if (!log_file) fail(NOT_TRACED, "cannot write", name, strerror(errno));
+  fputs("log 1\n", log_file);
+  for (; *words; words++) {
+    fputs("arg ", log_file);
+    for (const char *c = *words; *c; c++) fprintf(log_file, "%02x", (unsigned char)*c);
+    fputs(**words ? "\n" : "-\n", log_file);
+  }
+}
+
+/* Whether a log can have these arguments. */
+static bool are_arguments(char **words, int count) {
   size_t text = 0;
+  for (int k = 0; k < count; k++) text += strlen(words[k]) + 1;
+  return count <= MOST_WORDS && text <= MOST_TEXT;
+}
+
+int main(int count, char **words) {
   if (count == 2 && (strcmp(words[1], "--help") == 0 || strcmp(words[1], "-h") == 0)) {
-    puts("usage: record PROGRAM ARGS.. LOG\n"
-         "Runs PROGRAM, a static executable for i386, and writes the log with which `multiverse trace PROGRAM LOG STEPS`\n"
-         "repeats the run. It starts without an environment and without auxiliary values. Status 0: the log goes to the\n"
-         "program's end; 1: it ends before what no log can tell of, as a line on standard error says; 125 to 127: the\n"
-         "program could not be run. docs/NATIVE.md says what can't be recorded.");
+    show_usage(stdout);
     return 0;
   }
   if (count < 3) {
-    fputs("usage: record PROGRAM ARGS.. LOG\n", stderr);
+    show_usage(stderr);
     return USAGE;
   }
-  char *name = words[--count];
-  words[count] = NULL;
+  const char *name = words[count - 1];
+  words[count - 1] = NULL;
   words++;
-  count--;
-  for (int k = 0; k < count; k++) text += strlen(words[k]) + 1;
-  if (count > MOST_WORDS || text > MOST_TEXT) fail(USAGE, "too many words for a log of", words[0], NULL);
+  count -= 2;
+  if (!are_arguments(words, count)) fail(USAGE, "too many words for a log of", words[0], NULL);
   before = areas_new();
   after = areas_new();
-  log_file = fopen(name, "we");
-  if (!before || !after || !log_file) fail(NOT_TRACED, "cannot write", name, strerror(errno));
-  fputs("log 1\n", log_file);
-  for (int k = 0; k < count; k++) {
-    fputs("arg ", log_file);
-    for (const char *c = words[k]; *c; c++) fprintf(log_file, "%02x", (unsigned char)*c);
-    fputs(*words[k] ? "\n" : "-\n", log_file);
-  }
+  if (!before || !after) fail(NOT_TRACED, "no memory for", words[0], NULL);
+  open_log(name, words);
   begin(words);
   start(words, count);
   run();
-  if (fclose(log_file) != 0) fail(NOT_TRACED, "cannot write", name, strerror(errno));
+  bool is_written = !ferror(log_file);
+  program = 0;
+  if (fclose(log_file) != 0 || !is_written) fail(NOT_TRACED, "cannot write", name, strerror(errno));
   return is_whole ? RECORDED : CUT;
 }
