@@ -337,7 +337,7 @@ class Check:
         subprocess.run([self.stepper, self.path("executed"), self.path("program"), *words], input=b"", capture_output=True, timeout=600)
         os.rename(self.path("counted"), self.path("program"))
         with open(self.path("executed")) as lines:
-            wanted = Counter({int(at, 16): int(number) for at, number in map(str.split, lines)})
+            wanted = Counter({int(at, 16): int(number) for at, number, *_ in map(str.split, lines)})
         _, texts = listing(self.multiverse, MKSH)
         differ = sorted(at for at in {*ours.ran, *wanted} if ours.ran[at] != wanted[at] and at < KERNEL)
         # the launcher takes two of the auxiliary values out, through which the start code looks; and so calls don't go by the vDSO
