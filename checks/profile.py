@@ -4,11 +4,11 @@
     profile.py MULTIVERSE NATIVE STEPPER FOLDER
 
 Each program is rewritten with a counter at each instruction and two at each branch, and runs under NATIVE/launch. Callgrind
-counts the original. Three differences are known, and are callgrind's: a repeated string instruction is one execution for a counter
-and one for each turn for callgrind, so that of these only whether they ran is compared; a POP behind a call to it is none of its
-own; and the last block, whose system call ends the program, isn't counted. mksh's allocator runs otherwise under valgrind, so mksh
-is also compared with STEPPER, which runs it one instruction at a time. Then each of the profile's forms is read by the tool that it is for, where
-that is installed, and what it says is compared with callgrind's counts.
+counts the original. Three differences are known, and are callgrind's: a repeated string instruction is one execution for a
+counter and one for each turn for callgrind, so that of these only whether they ran is compared; a POP behind a call to it is none
+of its own; and the last block, whose system call ends the program, isn't counted. mksh's allocator runs otherwise under valgrind,
+so mksh is also compared with STEPPER, which runs it one instruction at a time. Then each of the profile's forms is read by the
+tool that it is for, where that is installed, and what it says is compared with callgrind's counts.
 """
 import glob, os, re, shutil, struct, subprocess, sys
 from bisect import bisect_right
@@ -43,9 +43,9 @@ class Theirs:
     """What callgrind counts: executions by address, and how often a branch jumped and ran."""
 
     def __init__(self, words, stdin, out):
-        ran = subprocess.run(["setarch", "-R", "valgrind", "--tool=callgrind", "--dump-instr=yes", "--collect-jumps=yes", "--compress-pos=no",
-                              "--compress-strings=no", f"--callgrind-out-file={out}", *words], input=stdin, capture_output=True,
-                             env={}, executable="/usr/bin/setarch", timeout=600)
+        ran = subprocess.run(["setarch", "-R", "valgrind", "--tool=callgrind", "--dump-instr=yes", "--collect-jumps=yes",
+                              "--compress-pos=no", "--compress-strings=no", f"--callgrind-out-file={out}", *words], input=stdin,
+                             capture_output=True, env={}, executable="/usr/bin/setarch", timeout=600)
         self.status, self.printed = ran.returncode, ran.stdout
         self.ran, self.jumps = Counter(), defaultdict(list)
         with open(out) as lines:
@@ -142,7 +142,8 @@ def jumped_differently(ours, theirs, texts):
 
 
 def profiled(native, multiverse, form, *names):
-    ran = subprocess.run([os.path.join(native, "profile"), f"--multiverse={multiverse}", f"--{form}", *names], capture_output=True, timeout=300)
+    ran = subprocess.run([os.path.join(native, "profile"), f"--multiverse={multiverse}", f"--{form}", *names], capture_output=True,
+                         timeout=300)
     if ran.returncode:
         raise SystemExit(f"checks/profile: --{form}: {ran.stderr.decode()}")
     return ran.stdout
@@ -158,8 +159,8 @@ def has(tool):
 
 def text_differs(made, counts):
     """Whether a form as text has other counts: each instruction's line has its count and its address."""
-    shown = {int(at, 16): int(n) for n, at in re.findall(r"^ *[0-9.]+% +(\d+) ([0-9a-f]{8})  [0-9a-f]{2,}  *\S", made.decode(), re.M)}
-    return shown != counts
+    lines = re.findall(r"^ *[0-9.]+% +(\d+) ([0-9a-f]{8})  [0-9a-f]{2,}  *\S", made.decode(), re.M)
+    return {int(at, 16): int(n) for n, at in lines} != counts
 
 
 def annotate_differs(made, total, folder):
@@ -257,8 +258,8 @@ def page_differs(made, counts, ours, folder):
     if re.search(rb"(src|href)=|url\(|@import|fetch\(", made):
         return "page: it loads something"
     if browser:
-        ran = subprocess.run([browser, "--headless", "--no-sandbox", "--disable-gpu", f"--user-data-dir={folder}/browser", "--dump-dom",
-                              f"file://{name}"], capture_output=True, timeout=300)
+        ran = subprocess.run([browser, "--headless", "--no-sandbox", "--disable-gpu", f"--user-data-dir={folder}/browser",
+                              "--dump-dom", f"file://{name}"], capture_output=True, timeout=300)
         if ran.returncode == 0 and b"<html" in ran.stdout:
             made = ran.stdout
         elif "a browser that runs" not in SKIPPED:
@@ -334,7 +335,8 @@ class Check:
         ours = self.ours(words, b"", {})
         os.rename(self.path("program"), self.path("counted"))
         os.rename(self.path("stepped"), self.path("program"))
-        subprocess.run([self.stepper, self.path("executed"), self.path("program"), *words], input=b"", capture_output=True, timeout=600)
+        subprocess.run([self.stepper, self.path("executed"), self.path("program"), *words], input=b"", capture_output=True,
+                       timeout=600)
         os.rename(self.path("counted"), self.path("program"))
         with open(self.path("executed")) as lines:
             wanted = Counter({int(at, 16): int(number) for at, number, *_ in map(str.split, lines)})
@@ -398,7 +400,8 @@ def shell(check):
     ours, theirs, found = check.counted(MKSH, words, b"")
     differ = [at for at in {*ours.ran, *theirs.ran} if ours.ran[at] != theirs.ran[at]]
     if ours.printed == theirs.printed and len(differ) * 100 <= MOST_DIFFERENT * len(ours.ran):
-        print(f"checks/profile: mksh: {len(differ)} of {len(ours.ran)} instructions run otherwise under valgrind, where memory lies elsewhere")
+        print(f"checks/profile: mksh: {len(differ)} of {len(ours.ran)} instructions run otherwise under valgrind, where memory "
+              "lies elsewhere")
         found = []
     found += check.forms(MKSH, ours)
     found += check.stepped(words)

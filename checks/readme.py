@@ -31,7 +31,8 @@ def joined(text):
 def can_trace(top):
     made = subprocess.run(["make", "-s", "-C", os.path.join(top, "native")], capture_output=True)
     hello = os.path.join(top, "examples", "hello", "hello")
-    return made.returncode == 0 and subprocess.run([os.path.join(top, "native", "launch"), hello], capture_output=True).returncode == 7
+    words = [os.path.join(top, "native", "launch"), hello]
+    return made.returncode == 0 and subprocess.run(words, capture_output=True).returncode == 7
 
 
 def has_elftools():

@@ -112,7 +112,8 @@ def ending(status, text):
     traps = {133: "trap breakpoint", 136: "trap divide", 132: "trap invalid"}
     if status < 128:
         return ["end gone"]
-    return [f"end {traps[status]}"] if status in traps else ["end trap read", "end trap write", "end trap fetch", "end trap protection"]
+    faults = "read", "write", "fetch", "protection"
+    return [f"end {traps[status]}"] if status in traps else [f"end trap {fault}" for fault in faults]
 
 
 def compiled(multiverse, record, folder):
@@ -156,7 +157,8 @@ def tools(multiverse, record, folder):
     packed = os.path.join(folder, "text.gz")
     with open(packed, "wb") as out:
         subprocess.run(["gzip", "-nc"], input=TEXT, stdout=out, check=True)
-    runs = [[shell, "-c", script] for shell in (MKSH, LKSH) for script in SCRIPTS] + [[GUNZIP, "-c", packed], [GUNZIP, "-t", packed]]
+    runs = [[shell, "-c", script] for shell in (MKSH, LKSH) for script in SCRIPTS]
+    runs += [[GUNZIP, "-c", packed], [GUNZIP, "-t", packed]]
     for words in runs:
         if not is_i386(words[0]):
             skipped += [words[0]] if words[0] not in skipped else []

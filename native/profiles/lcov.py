@@ -65,5 +65,5 @@ def records(name, source):
 
 def written(profile):
     if not profile.program.rows:
-        raise ValueError(f"{profile.program.name} has no line numbers: compile it with -g, or name a file that has them by --symbols")
+        raise ValueError(f"{profile.program.name} has no line numbers: compile it with -g, or name a file with them by --symbols")
     return "".join(line + "\n" for name, source in sorted(sources(profile).items()) for line in records(name, source)).encode()

@@ -20,10 +20,12 @@ details { border-top: 1px solid var(--line); } summary { display: grid; cursor: 
 summary:hover, summary:focus-visible { background: rgb(var(--heat) / .1); }
 .number { text-align: right; font-variant-numeric: tabular-nums; } .name { overflow-wrap: anywhere; }
 .track { height: .6rem; } .track i { display: block; height: 100%; min-width: 1px; background: var(--bar); border-radius: 3px; }
-.code { overflow-x: auto; margin: 0 0 1rem; } table { border-collapse: collapse; font: 13px/1.5 ui-monospace, monospace; width: 100%; }
+.code { overflow-x: auto; margin: 0 0 1rem; }
+table { border-collapse: collapse; font: 13px/1.5 ui-monospace, monospace; width: 100%; }
 td { padding: 0 .7rem; white-space: pre; } tr.run { background: rgb(var(--heat) / calc(var(--h) * .55)); }
 .bytes, .gap, .source { color: var(--faint); } .source td { padding-top: .4rem; white-space: pre-wrap; }
-.ways { display: inline-block; width: 5rem; height: .6rem; background: var(--passed); border-radius: 3px; overflow: hidden; vertical-align: middle; }
+.ways { display: inline-block; width: 5rem; height: .6rem; background: var(--passed); border-radius: 3px; overflow: hidden;
+  vertical-align: middle; }
 .ways i { display: block; height: 100%; background: var(--taken); } .none { padding: 1rem 0; color: var(--faint); }
 [hidden] { display: none !important; }
 @media (max-width: 45rem) { summary { grid-template-columns: 4rem 1fr; } .track { display: none; } }

@@ -5,7 +5,8 @@ from .model import amount, share
 def written(profile):
     program, counts = profile.program, profile.counts
     lines = [f"{amount(profile.total, 'execution')} of {amount(len(profile.ran), 'instruction')} in "
-             f"{amount(len(profile.parts), 'function')} of {program.name}", "", f"{'share':>7} {'executions':>14} {'at':>8}  function"]
+             f"{amount(len(profile.parts), 'function')} of {program.name}", "",
+             f"{'share':>7} {'executions':>14} {'at':>8}  function"]
     for part in profile.parts:
         place = program.line(part.function.start) if part.function.end else ""
         lines.append(f"{share(part.total, profile.total):6.2f}% {part.total:14} {part.function.start:08x}  {part.function.name}"

@@ -16,6 +16,7 @@ PAGE, HEAD, RECORD = 0x1000, 0x1000, 0x900
 EXECUTABLE = 1  # PF_X
 CONDITIONAL = re.compile(r"(j(?!mp\b)|loop)")
 DIRECT = re.compile(r"\S+ 0x([0-9a-f]+)")
+MARKS = ".L", "__end", "_end", "_etext", "etext"  # symbols that begin no function
 LEAVES = ("jmp ", "ret", "hlt", "ud2")
 
 
@@ -105,9 +106,10 @@ class Program:
         try:
             elf = ELFFile(io.BytesIO(data))
             self.entry = elf.header["e_entry"]
-            self.runs = [(part["p_vaddr"], part["p_memsz"]) for part in elf.iter_segments("PT_LOAD") if part["p_flags"] & EXECUTABLE]
-            self.base = min(part["p_vaddr"] for part in elf.iter_segments("PT_LOAD"))
-            self.end = max(part["p_vaddr"] + part["p_memsz"] for part in elf.iter_segments("PT_LOAD"))
+            loads = list(elf.iter_segments("PT_LOAD"))
+            self.runs = [(part["p_vaddr"], part["p_memsz"]) for part in loads if part["p_flags"] & EXECUTABLE]
+            self.base = min(part["p_vaddr"] for part in loads)
+            self.end = max(part["p_vaddr"] + part["p_memsz"] for part in loads)
             if symbols:
                 with open(symbols, "rb") as file:
                     elf = ELFFile(io.BytesIO(file.read()))
@@ -125,7 +127,7 @@ class Program:
             kind, at = symbol["st_info"]["type"], symbol["st_value"]
             if kind not in ("STT_FUNC", "STT_NOTYPE", "STT_GNU_IFUNC") or not symbol.name or not self.is_code(at):
                 continue
-            if symbol["st_shndx"] == "SHN_ABS" or kind == "STT_NOTYPE" and symbol.name.startswith((".L", "__end", "_end", "_etext", "etext")):
+            if symbol["st_shndx"] == "SHN_ABS" or kind == "STT_NOTYPE" and symbol.name.startswith(MARKS):
                 continue
             rank = kind != "STT_NOTYPE", symbol["st_size"] > 0, symbol["st_info"]["bind"] == "STB_GLOBAL", symbol.name
             if at not in best or rank > best[at][0]:
