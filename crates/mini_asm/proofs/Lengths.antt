@@ -5,6 +5,7 @@ use Rattle.x86_insn.specs.declared.insn.Insn.{Insn}
 use Rattle.x86_insn.specs.declared.insn.Insn.TheVariants as insn
 use Rattle.x86_insn.specs.Spelling.{Spells}
 use Rattle.mini_asm.specs.Faults.{HasLength, LeastOfLength, transfer_length}
+use Rattle.mini_asm.specs.Forms.{IsTransfer}
 use Rattle.mini_asm.specs.Lines.{IsJudged}
 
 pub transfer-size : (i : Insn) (n : ℕ) → Some n ≡ transfer_length i → HasLength i n
@@ -20,3 +21,10 @@ other-size (insn.Branch cond rel) n e least judged = absurd (none-some 6 e)
 other-size (insn.Loop kind rel) n e least judged = absurd (none-some 2 e)
 other-size (insn.Call rel) n e least judged = absurd (none-some 5 e)
 other-size i n e least judged = least judged.0 judged.1
+
+pub no-transfer : (i : Insn) → None ≡ transfer_length i → IsTransfer i → ⊥
+no-transfer (insn.Jump rel) e transfer = none-some 5 e
+no-transfer (insn.Branch cond rel) e transfer = none-some 6 e
+no-transfer (insn.Loop kind rel) e transfer = none-some 2 e
+no-transfer (insn.Call rel) e transfer = none-some 5 e
+no-transfer i e transfer = transfer

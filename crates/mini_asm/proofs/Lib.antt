@@ -5,10 +5,13 @@ mod Kept
 mod Labelled
 mod Lengths
 mod Lines
+mod Misfits
 mod Named
 mod Numbers
+mod Placing
 mod OneForm
 mod Reading
 mod Spelled
 mod Splitting
 mod Standing
+mod Written

@@ -14,3 +14,5 @@ pub mod Sources
 pub mod Faults
 pub mod Reads
 pub mod Labels
+pub mod Spots
+pub mod Writing

@@ -15,6 +15,7 @@
 
 mod building;
 pub mod form;
+mod judging;
 mod labels;
 pub mod laws;
 pub mod line;
@@ -24,7 +25,9 @@ mod names;
 mod operands;
 mod sizes;
 mod source;
+mod spots;
 mod words;
+mod writing;
 
 pub use form::{Form, read_form};
 pub use line::read_line;

@@ -1,8 +1,9 @@
 //! How many bytes lines have, whatever their addresses.
 
-ghost use Rattle.std.specs.Prelude.{◌≡◌, ℕ, List};
+ghost use Rattle.std.specs.Prelude.{◌≡◌, ◌≤◌, ℕ, List, IfSome};
 ghost use Rattle.x86_insn.specs.Spelling.{Spells};
 ghost use Rattle.mini_asm.specs.Faults.{HasLength, LeastOfLength, transfer_length};
+ghost use Rattle.mini_asm.specs.Forms.{IsTransfer};
 ghost use Rattle.mini_asm.specs.Lines.{IsJudged};
 
 use x86_encode::encoded;
@@ -10,7 +11,9 @@ use x86_insn::Insn;
 
 /// How many bytes an instruction has, whatever its address.
 pub(crate) fn size(insn: &Insn) -> usize
-    ensures { IsJudged insn.now → HasLength insn.now result }
+    ensures judged { IsJudged insn.now → HasLength insn.now result }
+    ensures transfer { IsTransfer insn.now → HasLength insn.now result }
+    ensures at_most { result ≤ 15 }
 {
     match transfer_size(insn) {
         Some(size) => size,
@@ -20,7 +23,8 @@ pub(crate) fn size(insn: &Insn) -> usize
 
 /// How many bytes a direct transfer has.
 fn transfer_size(insn: &Insn) -> Option<usize>
-    ensures { result ≡ transfer_length insn.now }
+    ensures is { result ≡ transfer_length insn.now }
+    ensures at_most { IfSome result (λ size. size ≤ 6) }
 {
     match *insn {
         Insn::Jump { .. } | Insn::Call { .. } => Some(5),
@@ -32,7 +36,8 @@ fn transfer_size(insn: &Insn) -> Option<usize>
 
 /// How many bytes the least spelling of an instruction has.
 fn least_size(insn: &Insn) -> usize
-    ensures { (s : List ℕ) → Spells s insn.now → LeastOfLength insn.now result }
+    ensures is { (s : List ℕ) → Spells s insn.now → LeastOfLength insn.now result }
+    ensures at_most { result ≤ 15 }
 {
     match encoded(insn) {
         Some(spelling) => spelling.as_slice().len(),
