@@ -1,5 +1,8 @@
 mod Addresses
 mod Complete
+mod Drafting
+mod Faulting
+mod Faultless
 mod Forming
 mod Kept
 mod Labelled
@@ -11,7 +14,11 @@ mod Numbers
 mod Placing
 mod OneForm
 mod Reading
+mod Rows
 mod Spelled
 mod Splitting
 mod Standing
+mod Transferring
+mod Unique
 mod Written
+mod Whole

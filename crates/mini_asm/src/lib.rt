@@ -9,10 +9,12 @@
 //! reads where the address behind it is 0, or a direct transfer to a label.
 //!
 //! `source` reads all lines of a source by their forms, and finds the first that is no line of a source; `labels` has where
-//! each label is defined first. `sizes` has how many bytes an instruction takes, and `listings` shows what a source
-//! assembles to.
+//! each label is defined first. `sizes` has how many bytes an instruction takes, and `spots` where each line stands. `judging`
+//! finds a loop that goes too far, too much code or none; `writing` has the bytes and the text of each line, `assembling` joins
+//! all of it, and `listings` shows what a source assembles to.
 #![tactic(auto)]
 
+pub mod assembling;
 mod building;
 pub mod form;
 mod judging;
@@ -29,6 +31,7 @@ mod spots;
 mod words;
 mod writing;
 
+pub use assembling::{AsmFault, assemble};
 pub use form::{Form, read_form};
 pub use line::read_line;
 pub use listings::{Assembled, Listed, listing};

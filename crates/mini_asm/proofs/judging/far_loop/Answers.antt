@@ -1,4 +1,4 @@
-use Rattle.std.proofs.Common.{◌≡◌, below_more, arith, false, sym, ◌∙◌}
+use Rattle.std.proofs.Common.{below_more, arith, sym, ◌∙◌}
 use Rattle.std.proofs.lemmas.Option.{slice_get_within}
 use Rattle.mini_asm.specs.Labels.{place_of}
 use Rattle.mini_asm.specs.Spots.{address_in}

@@ -1,4 +1,4 @@
-use Rattle.std.proofs.Common.{arith, sym, ◌∙◌}
+use Rattle.std.proofs.Common.{arith}
 use Rattle.mini_asm.specs.Spots.IsMisfit.{Far, Full, Empty}
 use Rattle.mini_asm.proofs.judging.misfit.Goals as goal
 

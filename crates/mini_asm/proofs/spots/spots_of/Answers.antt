@@ -1,9 +1,8 @@
-use Rattle.std.proofs.Common.{◌∙◌, ◌+◌, ◌%◌, ◌^◌, ◌++◌, ◌∷◌, [], List, take, sym, ap, subst, arith}
-use Rattle.std.proofs.lemmas.List.{take_more}
+use Rattle.std.proofs.Common.{◌+◌, take, sym, ap, subst, arith}
 use Rattle.elf32_read.specs.CodeImage.{code_base}
 use Rattle.mini_asm.specs.declared.spots.Spot.{Spot}
 use Rattle.mini_asm.specs.Spots.{AreSpots, total}
-use Rattle.mini_asm.proofs.Placing.{spots-push, spots-taken, total-push}
+use Rattle.mini_asm.proofs.Placing.{spots-taken, total-push}
 use Rattle.mini_asm.proofs.spots.spots_of.Goals as goal
 
 pub loop-form-preserved : goal.loop-form-preserved
