@@ -397,7 +397,7 @@ def judge_words(check, words):
         check.count("no command")
 
 
-FREE = ("rewrite", "trace", "list", "sample", "extract", "upgrade", "check")
+FREE = ("rewrite", "trace", "list", "sample", "extract", "upgrade", "check", "assemble")
 
 
 def some_words(rng):
@@ -406,7 +406,7 @@ def some_words(rng):
         return rng.choices(PARTS, k=rng.randrange(6))
     words = {"rewrite": ["rewrite", "in", "out"], "trace": ["trace", "in", "log", "9"], "list": ["list", "in"],
              "sample": ["sample", "7", "100", "out"], "extract": ["extract", "in", "out"], "upgrade": ["upgrade", "in", "out"],
-             "check": ["check", "in", "out"]}[shape]
+             "check": ["check", "in", "out"], "assemble": ["assemble", "log", "out"]}[shape]
     for option in ("--count", "--edges") if rng.random() < .9 else ("--edges", "--count"):
         if shape == "rewrite" and rng.random() < .6:
             words.append(rng.choice([part for part in PARTS if part.startswith(option)]))

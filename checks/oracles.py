@@ -45,7 +45,7 @@ def is_command(words):
         return len(rest) == 3 and is_name(rest[0]) and is_name(rest[1]) and is_decimal(rest[2], 2**64 - 1)
     if name == "list":
         return len(rest) == 1 and is_name(rest[0])
-    if name in ("extract", "upgrade", "check"):
+    if name in ("extract", "upgrade", "check", "assemble"):
         return len(rest) == 2 and all(map(is_name, rest))
     if name == "sample":
         return (len(rest) == 3 and is_decimal(rest[0], 2**32 - 1) and is_decimal(rest[1], 1048576) and rest[1] != "0"

@@ -32,7 +32,7 @@ _multiverse() {
     multiverse-map:-* | multiverse-record:-*) _multiverse_takes --help ;;
     multiverse:*)
       if [[ $COMP_CWORD -eq 1 ]]; then
-        _multiverse_takes 'rewrite trace list sample extract upgrade check --help --version'
+        _multiverse_takes 'rewrite trace list sample extract upgrade check assemble --help --version'
       elif [[ $word == -* && ${COMP_WORDS[1]} == rewrite ]]; then
         case $line in
           *--edges*) COMPREPLY=() ;;

@@ -93,6 +93,7 @@ not-done (refusal.TooLarge n) e = cc
 not-done (refusal.Lacking defect.NoFrame) e = cc
 not-done (refusal.Lacking (defect.BadImage f)) e = cc
 not-done (refusal.Lacking (defect.BadLog n)) e = cc
+not-done (refusal.Lacking (defect.BadSource n)) e = cc
 not-done (refusal.Lacking (defect.Differs d)) e = cc
 not-done (refusal.Lacking (defect.TooLarge n)) e = cc
 not-done (refusal.Lacking (defect.NoRoom n)) e = cc

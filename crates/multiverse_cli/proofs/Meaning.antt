@@ -41,6 +41,7 @@ comes-defect : (why : Defect) (a : Asked) (s : Stored) (k : Printed) → IsLacki
 comes-defect defect.NoFrame a s k h = (defect.NoFrame, refl, h)
 comes-defect (defect.BadImage fault) a s k h = (defect.BadImage fault, refl, h)
 comes-defect (defect.BadLog line) a s k h = (defect.BadLog line, refl, h)
+comes-defect (defect.BadSource line) a s k h = (defect.BadSource line, refl, h)
 comes-defect (defect.Differs found) a s k h = (defect.Differs found, refl, h)
 comes-defect (defect.TooLarge size) a s k h = inr (defect.TooLarge size, refl, h)
 comes-defect (defect.NoRoom size) a s k h = (defect.NoRoom size, refl, h)
@@ -110,6 +111,7 @@ leaves-defect : (why : Defect) (a : Asked) (s : Stored) → KeepsAll s → Leave
 leaves-defect defect.NoFrame a s h = h
 leaves-defect (defect.BadImage fault) a s h = h
 leaves-defect (defect.BadLog line) a s h = h
+leaves-defect (defect.BadSource line) a s h = h
 leaves-defect (defect.Differs found) a s h = h
 leaves-defect (defect.TooLarge size) a s h = h
 leaves-defect (defect.NoRoom size) a s h = h
@@ -173,6 +175,7 @@ says-defect :
 says-defect defect.NoFrame a s k h said = (defect.NoFrame, refl, h, said)
 says-defect (defect.BadImage fault) a s k h said = (defect.BadImage fault, refl, h, said)
 says-defect (defect.BadLog line) a s k h said = (defect.BadLog line, refl, h, said)
+says-defect (defect.BadSource line) a s k h said = (defect.BadSource line, refl, h, said)
 says-defect (defect.Differs found) a s k h said = (defect.Differs found, refl, h, said)
 says-defect (defect.TooLarge size) a s k h said = inr (defect.TooLarge size, refl, h, said)
 says-defect (defect.NoRoom size) a s k h said = (defect.NoRoom size, refl, h, said)
@@ -260,6 +263,7 @@ delivers-defect : (why : Defect) (asked : Option Asked) (s : Stored) (k : Printe
 delivers-defect defect.NoFrame asked s k = tt
 delivers-defect (defect.BadImage fault) asked s k = tt
 delivers-defect (defect.BadLog line) asked s k = tt
+delivers-defect (defect.BadSource line) asked s k = tt
 delivers-defect (defect.Differs found) asked s k = tt
 delivers-defect (defect.TooLarge size) asked s k = tt
 delivers-defect (defect.NoRoom size) asked s k = tt

@@ -37,6 +37,7 @@ module _ (law : OutputsPass) (b x : List ℕ) (which : Rules) (has : HasOutput b
   alike defect.NoFrame h = of-memory fault.NoFrame h
   alike (defect.BadImage f) h = of-memory (fault.Image f) h
   alike (defect.BadLog n) h = h
+  alike (defect.BadSource n) h = h
   alike (defect.Differs found) h = of-memory (fault.Differs found) h
   alike (defect.TooLarge n) h = h
   alike (defect.NoRoom n) h = h

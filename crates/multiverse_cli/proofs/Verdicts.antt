@@ -21,10 +21,10 @@ use Rattle.trace_run.specs.declared.tracing.TraceFault.TheVariants as tracing
 use Rattle.trace_run.specs.Reports.{IsBeyond}
 use Rattle.trace_run.specs.laws.OneTrace.{one_outcome}
 use Rattle.multiverse_cli.specs.declared.refusal.Defect.{Defect}
-use Rattle.multiverse_cli.specs.declared.refusal.Defect.TheVariants.{NoFrame, BadImage, BadLog, Differs, TooLarge, NoRoom}
-use Rattle.multiverse_cli.specs.Commands.{NewFile, Delivery, IsRewritable, IsNotRewritten, IsNotTraced, IsTracing, IsNotListed, IsNotExtracted, IsExtracting, IsNotUpgraded, IsUpgrading, IsNotAlike, Lacks, Delivers}
+use Rattle.multiverse_cli.specs.declared.refusal.Defect.TheVariants.{NoFrame, BadImage, BadLog, BadSource, Differs, TooLarge, NoRoom}
+use Rattle.multiverse_cli.specs.Commands.{NewFile, Delivery, IsRewritable, IsNotRewritten, IsNotTraced, IsTracing, IsNotListed, IsNotExtracted, IsExtracting, IsNotUpgraded, IsUpgrading, IsNotAlike, IsNotAssembled, IsAssembling, Lacks, Delivers}
 use Rattle.multiverse_cli.specs.Texts.{defect_status}
-use Rattle.multiverse_cli.specs.Words.{Work, ToRewrite, ToTrace, ToList, ToSample, ToExtract, ToUpgrade, ToCheck, output_of}
+use Rattle.multiverse_cli.specs.Words.{Work, ToRewrite, ToTrace, ToList, ToSample, ToExtract, ToUpgrade, ToCheck, ToAssemble, output_of}
 
 -- a value that isn't there is none
 pub absent : {A : Type 0} (o : Option A) → o ≡ None → IsSome o → ⊥
@@ -41,15 +41,18 @@ rewrite-one b which NoFrame other h k = absurd h
 rewrite-one b which (BadImage f) NoFrame h k = absurd k
 rewrite-one b which (BadImage f) (BadImage g) h k = refl
 rewrite-one b which (BadImage f) (BadLog n) h k = absurd k
+rewrite-one b which (BadImage f) (BadSource n) h k = absurd k
 rewrite-one b which (BadImage f) (TooLarge n) h k = absurd k
 rewrite-one b which (BadImage f) (Differs found) h k = absurd k
 rewrite-one b which (BadImage f) (NoRoom n) h k = absurd (fault-none _ f k.whole h)
 rewrite-one b which (BadLog n) other h k = absurd h
+rewrite-one b which (BadSource n) other h k = absurd h
 rewrite-one b which (TooLarge n) other h k = absurd h
 rewrite-one b which (Differs found) other h k = absurd h
 rewrite-one b which (NoRoom n) NoFrame h k = absurd k
 rewrite-one b which (NoRoom n) (BadImage f) h k = absurd (fault-none _ f h.whole k)
 rewrite-one b which (NoRoom n) (BadLog m) h k = absurd k
+rewrite-one b which (NoRoom n) (BadSource m) h k = absurd k
 rewrite-one b which (NoRoom n) (TooLarge m) h k = absurd k
 rewrite-one b which (NoRoom n) (Differs found) h k = absurd k
 rewrite-one b which (NoRoom n) (NoRoom m) h k = refl
@@ -58,6 +61,7 @@ rewrite-clash : (b : List ℕ) (which : Rules) (why : Defect) → IsNotRewritten
 rewrite-clash b which NoFrame h k = h
 rewrite-clash b which (BadImage f) h k = fault-none _ f k.sound h
 rewrite-clash b which (BadLog n) h k = h
+rewrite-clash b which (BadSource n) h k = h
 rewrite-clash b which (TooLarge n) h k = h
 rewrite-clash b which (Differs found) h k = h
 rewrite-clash b which (NoRoom n) h k = absent (base_of b which) h.full k.room
@@ -76,18 +80,22 @@ trace-one steps b l NoFrame other h k = absurd h
 trace-one steps b l (BadImage f) NoFrame h k = absurd k
 trace-one steps b l (BadImage f) (BadImage g) h k = refl
 trace-one steps b l (BadImage f) (BadLog n) h k = absurd (fault-none _ f k.sound h)
+trace-one steps b l (BadImage f) (BadSource n) h k = absurd k
 trace-one steps b l (BadImage f) (TooLarge n) h k = absurd (fault-none _ f k.traceable.sound h)
 trace-one steps b l (BadImage f) (Differs found) h k = absurd k
 trace-one steps b l (BadImage f) (NoRoom n) h k = absurd k
 trace-one steps b l (BadLog n) NoFrame h k = absurd k
 trace-one steps b l (BadLog n) (BadImage f) h k = absurd (fault-none _ f h.sound k)
 trace-one steps b l (BadLog n) (BadLog m) h k = refl
+trace-one steps b l (BadLog n) (BadSource m) h k = absurd k
 trace-one steps b l (BadLog n) (TooLarge m) h k = absurd (log-clash l n k.log h.bad k.traceable.spelled)
 trace-one steps b l (BadLog n) (Differs found) h k = absurd k
 trace-one steps b l (BadLog n) (NoRoom m) h k = absurd k
+trace-one steps b l (BadSource n) other h k = absurd h
 trace-one steps b l (TooLarge n) NoFrame h k = absurd k
 trace-one steps b l (TooLarge n) (BadImage f) h k = absurd (fault-none _ f h.traceable.sound k)
 trace-one steps b l (TooLarge n) (BadLog m) h k = absurd (log-clash l m h.log k.bad h.traceable.spelled)
+trace-one steps b l (TooLarge n) (BadSource m) h k = absurd k
 trace-one steps b l (TooLarge n) (TooLarge m) h k = refl
 trace-one steps b l (TooLarge n) (Differs found) h k = absurd k
 trace-one steps b l (TooLarge n) (NoRoom m) h k = absurd k
@@ -114,6 +122,7 @@ trace-clash : SpellsOne → (steps : ℕ) (b l : List ℕ) (why : Defect) (d : D
 trace-clash one steps b l NoFrame d h k = h
 trace-clash one steps b l (BadImage f) d h k = fault-none _ f k.traceable.sound h
 trace-clash one steps b l (BadLog n) d h k = log-clash l n k.log h.bad k.traceable.spelled
+trace-clash one steps b l (BadSource n) d h k = h
 trace-clash one steps b l (TooLarge n) d h k =
     let P : Log → Type 0 = λ log. IsBeyond b log steps n in
     one_outcome b k.log steps (Ok k.report) (Err (tracing.TooLarge n)) k.reports
@@ -128,10 +137,12 @@ list-one b NoFrame other h k = absurd h
 list-one b (BadImage f) NoFrame h k = absurd k
 list-one b (BadImage f) (BadImage g) h k = refl
 list-one b (BadImage f) (BadLog n) h k = absurd k
+list-one b (BadImage f) (BadSource n) h k = absurd k
 list-one b (BadImage f) (TooLarge n) h k = absurd k
 list-one b (BadImage f) (Differs found) h k = absurd k
 list-one b (BadImage f) (NoRoom n) h k = absurd k
 list-one b (BadLog n) other h k = absurd h
+list-one b (BadSource n) other h k = absurd h
 list-one b (TooLarge n) other h k = absurd h
 list-one b (Differs found) other h k = absurd h
 list-one b (NoRoom n) other h k = absurd h
@@ -140,6 +151,7 @@ list-clash : (b : List ℕ) (why : Defect) → IsNotListed b why → refusal b �
 list-clash b NoFrame h k = h
 list-clash b (BadImage f) h k = fault-none _ f k h
 list-clash b (BadLog n) h k = h
+list-clash b (BadSource n) h k = h
 list-clash b (TooLarge n) h k = h
 list-clash b (Differs found) h k = h
 list-clash b (NoRoom n) h k = h
@@ -154,11 +166,13 @@ extract-one : (x : List ℕ) (why other : Defect) → IsNotExtracted x why → I
 extract-one x NoFrame NoFrame h k = refl
 extract-one x NoFrame (BadImage f) h k = absurd k
 extract-one x NoFrame (BadLog n) h k = absurd k
+extract-one x NoFrame (BadSource n) h k = absurd k
 extract-one x NoFrame (TooLarge n) h k = absurd k
 extract-one x NoFrame (Differs found) h k = absurd k
 extract-one x NoFrame (NoRoom n) h k = absurd k
 extract-one x (BadImage f) other h k = absurd h
 extract-one x (BadLog n) other h k = absurd h
+extract-one x (BadSource n) other h k = absurd h
 extract-one x (TooLarge n) other h k = absurd h
 extract-one x (Differs found) other h k = absurd h
 extract-one x (NoRoom n) other h k = absurd h
@@ -167,6 +181,7 @@ extract-clash : (x output : List ℕ) (why : Defect) (d : Delivery) → IsNotExt
 extract-clash x output NoFrame d h k = frame-none x k.frame_of h k.framed
 extract-clash x output (BadImage f) d h k = h
 extract-clash x output (BadLog n) d h k = h
+extract-clash x output (BadSource n) d h k = h
 extract-clash x output (TooLarge n) d h k = h
 extract-clash x output (Differs found) d h k = h
 extract-clash x output (NoRoom n) d h k = h
@@ -187,21 +202,25 @@ upgrade-one : (x : List ℕ) (why other : Defect) → IsNotUpgraded x why → Is
 upgrade-one x NoFrame NoFrame h k = refl
 upgrade-one x NoFrame (BadImage f) h k = absurd (frame-none x k.0 h k.1)
 upgrade-one x NoFrame (BadLog n) h k = absurd k
+upgrade-one x NoFrame (BadSource n) h k = absurd k
 upgrade-one x NoFrame (TooLarge n) h k = absurd k
 upgrade-one x NoFrame (Differs found) h k = absurd k
 upgrade-one x NoFrame (NoRoom n) h k = absurd (frame-none x k.0 h k.1)
 upgrade-one x (BadImage f) NoFrame h k = absurd (frame-none x h.0 k h.1)
 upgrade-one x (BadImage f) (BadImage g) h k = refl
 upgrade-one x (BadImage f) (BadLog n) h k = absurd k
+upgrade-one x (BadImage f) (BadSource n) h k = absurd k
 upgrade-one x (BadImage f) (TooLarge n) h k = absurd k
 upgrade-one x (BadImage f) (Differs found) h k = absurd k
 upgrade-one x (BadImage f) (NoRoom n) h k = absurd (fault-or-room x f n h k)
 upgrade-one x (BadLog n) other h k = absurd h
+upgrade-one x (BadSource n) other h k = absurd h
 upgrade-one x (TooLarge n) other h k = absurd h
 upgrade-one x (Differs found) other h k = absurd h
 upgrade-one x (NoRoom n) NoFrame h k = absurd (frame-none x h.0 k h.1)
 upgrade-one x (NoRoom n) (BadImage f) h k = absurd (fault-or-room x f n k h)
 upgrade-one x (NoRoom n) (BadLog m) h k = absurd k
+upgrade-one x (NoRoom n) (BadSource m) h k = absurd k
 upgrade-one x (NoRoom n) (TooLarge m) h k = absurd k
 upgrade-one x (NoRoom n) (Differs found) h k = absurd k
 upgrade-one x (NoRoom n) (NoRoom m) h k = refl
@@ -217,6 +236,7 @@ module _ (x output : List ℕ) (d : Delivery) (k : IsUpgrading output x d) where
       let P : Frame → Type 0 = λ f. refusal (frame_input f) ≡ Some fault in
       rewrite-clash b (rules_back k.old) (BadImage fault) (subst P (one-frame x h.0 k.old h.1 k.framed) h.2) k.rewriting.rewrites.rewritable
   upgrade-clash (BadLog n) h = h
+  upgrade-clash (BadSource n) h = h
   upgrade-clash (TooLarge n) h = h
   upgrade-clash (Differs found) h = h
   upgrade-clash (NoRoom n) h =
@@ -229,19 +249,23 @@ check-one : (b x : List ℕ) (why other : Defect) → IsNotAlike b x why → IsN
 check-one b x NoFrame NoFrame h k = refl
 check-one b x NoFrame (BadImage f) h k = absurd (fault-none _ f h.whole k)
 check-one b x NoFrame (BadLog n) h k = absurd k
+check-one b x NoFrame (BadSource n) h k = absurd k
 check-one b x NoFrame (Differs found) h k = absurd (frame-none x k.found h.none k.framed)
 check-one b x NoFrame (TooLarge n) h k = absurd k
 check-one b x NoFrame (NoRoom n) h k = absurd k
 check-one b x (BadImage f) NoFrame h k = absurd (fault-none _ f k.whole h)
 check-one b x (BadImage f) (BadImage g) h k = refl
 check-one b x (BadImage f) (BadLog n) h k = absurd k
+check-one b x (BadImage f) (BadSource n) h k = absurd k
 check-one b x (BadImage f) (Differs found) h k = absurd (fault-none _ f k.whole h)
 check-one b x (BadImage f) (TooLarge n) h k = absurd k
 check-one b x (BadImage f) (NoRoom n) h k = absurd k
 check-one b x (BadLog n) other h k = absurd h
+check-one b x (BadSource n) other h k = absurd h
 check-one b x (Differs found) NoFrame h k = absurd (frame-none x h.found k.none h.framed)
 check-one b x (Differs found) (BadImage f) h k = absurd (fault-none _ f h.whole k)
 check-one b x (Differs found) (BadLog n) h k = absurd k
+check-one b x (Differs found) (BadSource n) h k = absurd k
 check-one b x (Differs found) (Differs other) h k = refl
 check-one b x (Differs found) (TooLarge n) h k = absurd k
 check-one b x (Differs found) (NoRoom n) h k = absurd k
@@ -258,9 +282,36 @@ pub check-clash : (b x : List ℕ) (why : Defect) → Compares b x None → IsNo
 check-clash b x NoFrame k h = frame-none x k.found h.none k.framed
 check-clash b x (BadImage f) k h = fault-none _ f k.whole h
 check-clash b x (BadLog n) k h = h
+check-clash b x (BadSource n) k h = h
 check-clash b x (Differs found) k h = alike-differs b x found k h
 check-clash b x (TooLarge n) k h = h
 check-clash b x (NoRoom n) k h = h
+
+-- ---- assemble
+
+assemble-one : (s : List ℕ) (why other : Defect) → IsNotAssembled s why → IsNotAssembled s other → defect_status why ≡ defect_status other
+assemble-one s NoFrame other h k = absurd h
+assemble-one s (BadImage f) other h k = absurd h
+assemble-one s (BadLog n) other h k = absurd h
+assemble-one s (BadSource n) NoFrame h k = absurd k
+assemble-one s (BadSource n) (BadImage f) h k = absurd k
+assemble-one s (BadSource n) (BadLog m) h k = absurd k
+assemble-one s (BadSource n) (BadSource m) h k = refl
+assemble-one s (BadSource n) (Differs found) h k = absurd k
+assemble-one s (BadSource n) (TooLarge m) h k = absurd k
+assemble-one s (BadSource n) (NoRoom m) h k = absurd k
+assemble-one s (Differs found) other h k = absurd h
+assemble-one s (TooLarge n) other h k = absurd h
+assemble-one s (NoRoom n) other h k = absurd h
+
+assemble-clash : (s output : List ℕ) (why : Defect) (d : Delivery) → IsNotAssembled s why → IsAssembling output s d → ⊥
+assemble-clash s output NoFrame d h k = h
+assemble-clash s output (BadImage f) d h k = h
+assemble-clash s output (BadLog n) d h k = h
+assemble-clash s output (BadSource n) d h k = k.faultless n h
+assemble-clash s output (Differs found) d h k = h
+assemble-clash s output (TooLarge n) d h k = h
+assemble-clash s output (NoRoom n) d h k = h
 
 -- ---- all commands
 
@@ -290,6 +341,9 @@ one-defect ToCheck [] why other h k = absurd h
 one-defect ToCheck (b ∷ []) why other h k = absurd h
 one-defect ToCheck (b ∷ x ∷ []) why other h k = check-one b x why other h k
 one-defect ToCheck (b ∷ x ∷ c ∷ files) why other h k = absurd h
+one-defect (ToAssemble output) [] why other h k = absurd h
+one-defect (ToAssemble output) (s ∷ []) why other h k = assemble-one s why other h k
+one-defect (ToAssemble output) (s ∷ c ∷ files) why other h k = absurd h
 
 -- files that lack something have nothing that is delivered over them
 pub defect-clash : SpellsOne → (w : Work) (files : List (List ℕ)) (why : Defect) (d : Delivery) → Lacks w files why → Delivers w files d → ⊥
@@ -315,6 +369,9 @@ defect-clash one ToCheck [] why d h k = h
 defect-clash one ToCheck (b ∷ []) why d h k = h
 defect-clash one ToCheck (b ∷ x ∷ []) why d h k = check-clash b x why k.alike h
 defect-clash one ToCheck (b ∷ x ∷ c ∷ files) why d h k = h
+defect-clash one (ToAssemble output) [] why d h k = h
+defect-clash one (ToAssemble output) (s ∷ []) why d h k = assemble-clash s output why d h k
+defect-clash one (ToAssemble output) (s ∷ c ∷ files) why d h k = h
 
 -- the file that is delivered has the name that the command writes
 pub output-named :
@@ -342,3 +399,6 @@ output-named ToCheck [] d f h e = absurd h
 output-named ToCheck (b ∷ []) d f h e = absurd h
 output-named ToCheck (b ∷ x ∷ []) d f h e = let clash : None ≡ Some f = sym h.file_is ∙ e in cc
 output-named ToCheck (b ∷ x ∷ c ∷ files) d f h e = absurd h
+output-named (ToAssemble output) [] d f h e = absurd h
+output-named (ToAssemble output) (s ∷ []) d f h e = ap (option_map (λ g. g.name)) (sym h.file_is ∙ e)
+output-named (ToAssemble output) (s ∷ c ∷ files) d f h e = absurd h

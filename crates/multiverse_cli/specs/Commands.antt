@@ -15,6 +15,10 @@ use Rattle.mv_rewrite.specs.OutputFile.{IsWrittenFor}
 use Rattle.mv_rewrite.specs.Rewriting.{LacksRoom}
 use Rattle.mv_rewrite.specs.Upgrading.{rules_back}
 use Rattle.pair_check.specs.Checking.{Compares, LacksFrame}
+use Rattle.mini_asm.specs.declared.listings.Listed.{Listed}
+use Rattle.mini_asm.specs.Faults.{IsFault}
+use Rattle.mini_asm.specs.Listings.{listing_of}
+use Rattle.mini_asm.specs.Sources.{IsAssembled}
 use Rattle.syscall_log.specs.declared.log.Log.{Log}
 use Rattle.syscall_log.specs.Faults.{IsBadLine}
 use Rattle.syscall_log.specs.Grammar.{text_of as log_text}
@@ -22,11 +26,11 @@ use Rattle.trace_run.specs.declared.report.Report.{Report}
 use Rattle.trace_run.specs.Reports.{IsReport, IsBeyond}
 use Rattle.trace_run.specs.Texts.{text_of as report_text}
 use Rattle.multiverse_cli.specs.declared.refusal.Defect.{Defect}
-use Rattle.multiverse_cli.specs.declared.refusal.Defect.TheVariants.{NoFrame, BadImage, BadLog, Differs, TooLarge, NoRoom}
+use Rattle.multiverse_cli.specs.declared.refusal.Defect.TheVariants.{NoFrame, BadImage, BadLog, BadSource, Differs, TooLarge, NoRoom}
 use Rattle.multiverse_cli.specs.Listing.{listing}
 use Rattle.multiverse_cli.specs.Sample.{sample}
 use Rattle.multiverse_cli.specs.Texts.{count_line, rewritten_text, sample_text}
-use Rattle.multiverse_cli.specs.Words.{Work, ToRewrite, ToTrace, ToList, ToSample, ToExtract, ToUpgrade, ToCheck}
+use Rattle.multiverse_cli.specs.Words.{Work, ToRewrite, ToTrace, ToList, ToSample, ToExtract, ToUpgrade, ToCheck, ToAssemble}
 
 -- a file that a command writes
 pub record NewFile : Type 0 where
@@ -67,6 +71,7 @@ abbrev pub IsNotRewritten : List ℕ → Rules → Defect → Type 0
 IsNotRewritten b which NoFrame = ⊥
 IsNotRewritten b which (BadImage fault) = refusal b ≡ Some fault
 IsNotRewritten b which (BadLog line) = ⊥
+IsNotRewritten b which (BadSource line) = ⊥
 IsNotRewritten b which (Differs found) = ⊥
 IsNotRewritten b which (TooLarge n) = ⊥
 IsNotRewritten b which (NoRoom n) = LacksRoom b which n
@@ -101,6 +106,7 @@ abbrev pub IsNotTraced : ℕ → List ℕ → List ℕ → Defect → Type 0
 IsNotTraced steps b l NoFrame = ⊥
 IsNotTraced steps b l (BadImage fault) = load_refusal b ≡ Some fault
 IsNotTraced steps b l (BadLog line) = HasBadLine b l line
+IsNotTraced steps b l (BadSource line) = ⊥
 IsNotTraced steps b l (Differs found) = ⊥
 IsNotTraced steps b l (TooLarge n) = MapsTooMuch steps b l n
 IsNotTraced steps b l (NoRoom n) = ⊥
@@ -121,6 +127,7 @@ abbrev pub IsNotListed : List ℕ → Defect → Type 0
 IsNotListed b NoFrame = ⊥
 IsNotListed b (BadImage fault) = refusal b ≡ Some fault
 IsNotListed b (BadLog line) = ⊥
+IsNotListed b (BadSource line) = ⊥
 IsNotListed b (Differs found) = ⊥
 IsNotListed b (TooLarge n) = ⊥
 IsNotListed b (NoRoom n) = ⊥
@@ -147,6 +154,7 @@ abbrev pub IsNotExtracted : List ℕ → Defect → Type 0
 IsNotExtracted x NoFrame = frame x ≡ None
 IsNotExtracted x (BadImage fault) = ⊥
 IsNotExtracted x (BadLog line) = ⊥
+IsNotExtracted x (BadSource line) = ⊥
 IsNotExtracted x (Differs found) = ⊥
 IsNotExtracted x (TooLarge n) = ⊥
 IsNotExtracted x (NoRoom n) = ⊥
@@ -166,6 +174,7 @@ abbrev pub IsNotUpgraded : List ℕ → Defect → Type 0
 IsNotUpgraded x NoFrame = frame x ≡ None
 IsNotUpgraded x (BadImage fault) = (f : Frame) × (frame x ≡ Some f) × (refusal (frame_input f) ≡ Some fault)
 IsNotUpgraded x (BadLog line) = ⊥
+IsNotUpgraded x (BadSource line) = ⊥
 IsNotUpgraded x (Differs found) = ⊥
 IsNotUpgraded x (TooLarge n) = ⊥
 IsNotUpgraded x (NoRoom n) = (f : Frame) × (frame x ≡ Some f) × LacksRoom (frame_input f) (rules_back f) n
@@ -184,6 +193,7 @@ abbrev pub IsNotAlike : List ℕ → List ℕ → Defect → Type 0
 IsNotAlike b x NoFrame = LacksFrame b x
 IsNotAlike b x (BadImage fault) = refusal b ≡ Some fault
 IsNotAlike b x (BadLog line) = ⊥
+IsNotAlike b x (BadSource line) = ⊥
 IsNotAlike b x (Differs found) = Compares b x (Some found)
 IsNotAlike b x (TooLarge n) = ⊥
 IsNotAlike b x (NoRoom n) = ⊥
@@ -195,6 +205,28 @@ pub record IsChecking (b x : List ℕ) (d : Delivery) : Type 0 where
   pub text_is : d.text ≡ count_line (codes "checked") (length (sites_in (code_in b) (runs_of b)))
   pub file_is : d.file ≡ None
 
+-- ---- assemble
+
+-- why a source isn't assembled: this line is at fault
+abbrev pub IsNotAssembled : List ℕ → Defect → Type 0
+IsNotAssembled s NoFrame = ⊥
+IsNotAssembled s (BadImage fault) = ⊥
+IsNotAssembled s (BadLog line) = ⊥
+IsNotAssembled s (BadSource line) = IsFault s line
+IsNotAssembled s (Differs found) = ⊥
+IsNotAssembled s (TooLarge n) = ⊥
+IsNotAssembled s (NoRoom n) = ⊥
+
+-- the source has no line at fault; the image that it assembles to is written, which has no fault, and its listing is printed
+pub record IsAssembling (output s : List ℕ) (d : Delivery) : Type 0 where
+  pub bytes : List ℕ
+  pub lines : List Listed
+  pub assembled : IsAssembled s bytes lines
+  pub sound : refusal bytes ≡ None
+  pub faultless : (line : ℕ) → IsFault s line → ⊥
+  pub text_is : d.text ≡ listing_of lines
+  pub file_is : d.file ≡ Some (record { name = output; bytes = bytes })
+
 -- ---- all commands
 
 -- why nothing is delivered over the bytes of the files that are read
@@ -205,6 +237,7 @@ Lacks ToList (b ∷ []) why = IsNotListed b why
 Lacks (ToExtract output) (x ∷ []) why = IsNotExtracted x why
 Lacks (ToUpgrade output) (x ∷ []) why = IsNotUpgraded x why
 Lacks ToCheck (b ∷ x ∷ []) why = IsNotAlike b x why
+Lacks (ToAssemble output) (s ∷ []) why = IsNotAssembled s why
 Lacks work inputs why = ⊥
 
 -- what is delivered over the bytes of the files that are read
@@ -216,4 +249,5 @@ Delivers (ToSample number size output) [] d = IsSampling number size output d
 Delivers (ToExtract output) (x ∷ []) d = IsExtracting output x d
 Delivers (ToUpgrade output) (x ∷ []) d = IsUpgrading output x d
 Delivers ToCheck (b ∷ x ∷ []) d = IsChecking b x d
+Delivers (ToAssemble output) (s ∷ []) d = IsAssembling output s d
 Delivers work inputs d = ⊥

@@ -2,6 +2,8 @@
 use Rattle.elf32_read.specs.declared.fault.ImageFault.{ImageFault}
 use Rattle.elf32_read.specs.declared.reader.ReadImage.{ReadImage}
 use Rattle.elf32_read.specs.declared.reader.ReadImage.TheVariants as reading
+use Rattle.mini_asm.specs.declared.assembling.AsmFault.{AsmFault}
+use Rattle.mini_asm.specs.declared.assembling.AsmFault.TheVariants as assembling
 use Rattle.mv_rewrite.specs.declared.rewriting.RewriteFault.{RewriteFault}
 use Rattle.mv_rewrite.specs.declared.rewriting.RewriteFault.TheVariants as rewriting
 use Rattle.pair_check.specs.declared.checking.CheckFault.{CheckFault}
@@ -37,6 +39,10 @@ abbrev pub not_rewritten : RewriteFault → Objection
 not_rewritten (rewriting.Image fault) = objection.Lacking (defect.BadImage fault)
 not_rewritten (rewriting.NoRoom n) = objection.Lacking (defect.NoRoom n)
 not_rewritten rewriting.NoMemory = objection.NoMemory
+
+abbrev pub not_assembled : AsmFault → Objection
+not_assembled (assembling.Line n) = objection.Lacking (defect.BadSource n)
+not_assembled assembling.NoMemory = objection.NoMemory
 
 abbrev pub not_alike : CheckFault → Objection
 not_alike (checking.Image fault) = objection.Lacking (defect.BadImage fault)

@@ -110,6 +110,10 @@ image_message fault = line (codes "multiverse: bad image: " ++ fault_name fault 
 abbrev pub log_message : ℕ → List ℕ
 log_message n = line (codes "multiverse: bad log: line " ++ decimal n)
 
+-- the message that a line of a source is at fault
+abbrev pub source_message : ℕ → List ℕ
+source_message n = line (codes "multiverse: bad source: line " ++ decimal n)
+
 -- the name of a part in which a file can differ
 abbrev pub part_name : Part → List ℕ
 part_name part.Room = codes "room"
@@ -146,6 +150,7 @@ abbrev pub defect_message : Defect → List ℕ
 defect_message defect.NoFrame = frame_message
 defect_message (defect.BadImage fault) = image_message fault
 defect_message (defect.BadLog n) = log_message n
+defect_message (defect.BadSource n) = source_message n
 defect_message (defect.Differs d) = differs_message d
 defect_message (defect.TooLarge n) = mapped_message n
 defect_message (defect.NoRoom n) = room_message n
@@ -154,6 +159,7 @@ abbrev pub defect_status : Defect → Status
 defect_status defect.NoFrame = status.NoFrame
 defect_status (defect.BadImage fault) = status.BadImage
 defect_status (defect.BadLog n) = status.BadLog
+defect_status (defect.BadSource n) = status.BadSource
 defect_status (defect.Differs d) = status.Differs
 defect_status (defect.TooLarge n) = status.TooLarge
 defect_status (defect.NoRoom n) = status.NoRoom

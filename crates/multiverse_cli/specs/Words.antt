@@ -17,12 +17,13 @@ use Rattle.multiverse_cli.specs.declared.words.RuleTexts.{RuleTexts}
 use Rattle.counter_hooks.specs.declared.rules.Rule.TheVariants as rule
 use Rattle.multiverse_cli.specs.declared.words.Command.{Command}
 use Rattle.multiverse_cli.specs.declared.words.Task.{Task}
-use Rattle.multiverse_cli.specs.declared.words.Task.TheVariants.{Rewrite, Trace, Listing, Sample, Extract, Upgrade, Check}
+use Rattle.multiverse_cli.specs.declared.words.Task.TheVariants.{Rewrite, Trace, Listing, Sample, Extract, Upgrade, Check, Assemble}
 
 -- what is done with the files that a command reads: the rewritten image, with the counters that the rules pick,
 -- is written to this name; or the image is run on the log for at most so many steps; or its sites are listed; or no file is read, and the rewritten sample of a number,
 -- with so many bytes of code, is written to this name; or the input of a rewritten file is written to this name, or the output of that
--- input by the rules that the file has; or an image and a file are looked at, whether the file is a rewriting of the image
+-- input by the rules that the file has; or an image and a file are looked at, whether the file is a rewriting of the image; or the image that a source assembles to is
+-- written to this name
 pub data Work : Type 0 where
   ToRewrite : (which : Rules) (output : List ℕ) → Work
   ToTrace : (steps : ℕ) → Work
@@ -31,6 +32,7 @@ pub data Work : Type 0 where
   ToExtract : (output : List ℕ) → Work
   ToUpgrade : (output : List ℕ) → Work
   ToCheck : Work
+  ToAssemble : (output : List ℕ) → Work
 
 -- what the program is asked: which files it reads, by their names in order, and what is done with them
 pub record Asked : Type 0 where
@@ -46,6 +48,7 @@ input_count (ToSample number size output) = 0
 input_count (ToExtract output) = 1
 input_count (ToUpgrade output) = 1
 input_count ToCheck = 2
+input_count (ToAssemble output) = 1
 
 -- the name that is written
 abbrev pub output_of : Work → Option (List ℕ)
@@ -56,6 +59,7 @@ output_of (ToSample number size output) = Some output
 output_of (ToExtract output) = Some output
 output_of (ToUpgrade output) = Some output
 output_of ToCheck = None
+output_of (ToAssemble output) = Some output
 
 -- how many bytes of code a sample has at most: 1 MiB
 abbrev pub largest_sample : ℕ
@@ -70,6 +74,7 @@ HasSize (ToSample number size output) = (1 ≤ size) × (size ≤ largest_sample
 HasSize (ToExtract output) = Unit {0}
 HasSize (ToUpgrade output) = Unit {0}
 HasSize ToCheck = Unit {0}
+HasSize (ToAssemble output) = Unit {0}
 
 -- the bytes of each word
 abbrev pub texts : List (String Global) → List (List ℕ)
@@ -176,15 +181,26 @@ check_words (command ∷ input ∷ output ∷ []) =
     then Some (record { reads = input ∷ output ∷ []; work = ToCheck }) else None
 check_words _ = None
 
+-- `assemble` and two names
+abbrev pub assemble_words : List (List ℕ) → Option Asked
+assemble_words (command ∷ source ∷ output ∷ []) =
+    if bytes_eq command (codes "assemble") && is_name source && is_name output
+    then Some (record { reads = source ∷ []; work = ToAssemble output }) else None
+assemble_words _ = None
+
 -- the first of two commands that is there
 abbrev pub or_asked : Option Asked → Option Asked → Option Asked
 or_asked (Some a) other = Some a
 or_asked None other = other
 
--- a command over an image: one that is read, or a sample
+-- a command that makes an image: a sample, or what a source assembles to
+abbrev pub made_words : List (List ℕ) → Option Asked
+made_words words = or_asked (sample_words words) (assemble_words words)
+
+-- a command over an image: one that is read, or one that is made
 abbrev pub image_words : List (List ℕ) → Option Asked
 image_words words =
-    or_asked (or_asked (or_asked (or_asked (rewrite_words words) (counting_words words)) (trace_words words)) (list_words words)) (sample_words words)
+    or_asked (or_asked (or_asked (or_asked (rewrite_words words) (counting_words words)) (trace_words words)) (list_words words)) (made_words words)
 
 -- a command over what a rewrite wrote
 abbrev pub frame_words : List (List ℕ) → Option Asked
@@ -220,6 +236,7 @@ work_of (Sample number size output) = ToSample number size output.now
 work_of (Extract output) = ToExtract output.now
 work_of (Upgrade output) = ToUpgrade output.now
 work_of Check = ToCheck
+work_of (Assemble output) = ToAssemble output.now
 
 -- the texts that a rewriting task has for rules are some
 abbrev pub IsRule : Option (Bor (List ℕ)) → Type 0
@@ -242,6 +259,7 @@ HasRule (Sample number size output) = Unit {0}
 HasRule (Extract output) = Unit {0}
 HasRule (Upgrade output) = Unit {0}
 HasRule Check = Unit {0}
+HasRule (Assemble output) = Unit {0}
 
 abbrev pub asked : Command → Asked
 asked c = record { reads = texts c.reads.now; work = work_of c.task }

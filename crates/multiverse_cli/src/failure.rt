@@ -2,6 +2,7 @@
 
 use crate::refusal::{Defect, Refusal};
 use elf32_read::{ImageFault, ReadImage};
+use mini_asm::AsmFault;
 use mv_base::NoMemory;
 use mv_rewrite::RewriteFault;
 use pair_check::CheckFault;
@@ -93,6 +94,20 @@ impl From<RewriteFault> for Objection {
             RewriteFault::Image(fault) => Objection::Lacking(Defect::BadImage(fault)),
             RewriteFault::NoRoom(size) => Objection::Lacking(Defect::NoRoom(size)),
             RewriteFault::NoMemory => Objection::NoMemory,
+        }
+    }
+}
+
+impl From<AsmFault> for Objection {
+    ghost use Rattle.std.specs.Prelude.{◌≡◌};
+    ghost use Rattle.multiverse_cli.specs.Failures.{not_assembled};
+
+    ghost from_gives = { λ fault f. f ≡ not_assembled fault };
+
+    fn from(fault: AsmFault) -> Self {
+        match fault {
+            AsmFault::Line(line) => Objection::Lacking(Defect::BadSource(line)),
+            AsmFault::NoMemory => Objection::NoMemory,
         }
     }
 }

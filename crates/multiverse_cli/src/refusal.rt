@@ -16,6 +16,8 @@ pub enum Defect {
     BadImage(ImageFault),
     /// The log's first line that no log has, counted from 1.
     BadLog(u64),
+    /// The line of the source that is at fault, counted from 1.
+    BadSource(u64),
     /// The output is no rewriting of the image: what differs first.
     Differs(Differs),
     /// So many bytes of pages would be mapped while the image runs, which are more than are allowed.
@@ -33,6 +35,7 @@ impl Defect {
             Defect::NoFrame => Status::NoFrame,
             Defect::BadImage(_) => Status::BadImage,
             Defect::BadLog(_) => Status::BadLog,
+            Defect::BadSource(_) => Status::BadSource,
             Defect::Differs(_) => Status::Differs,
             Defect::TooLarge(_) => Status::TooLarge,
             Defect::NoRoom(_) => Status::NoRoom,

@@ -16,7 +16,7 @@ use x86_encode::laws::operands_load;
 /// Does what the words after the program's name ask for, over the files of `store`, prints to `out`, and gives the
 /// answer.
 ///
-/// The answers are looked for in the order Usage, ReadFault, TooLarge of a file, NoFrame, BadImage, BadLog, TooLarge of the
+/// The answers are looked for in the order Usage, ReadFault, TooLarge of a file, NoFrame, BadImage, BadLog, BadSource, TooLarge of the
 /// bytes that a traced program maps, NoRoom, WriteFault, SinkFault, Done; NoMemory may come at any place. The clauses say
 /// when each comes, which one has to come, and what it leaves behind. All files of a command are read before any is judged.
 ///

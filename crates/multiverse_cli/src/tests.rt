@@ -11,6 +11,7 @@ mod inner;
 mod listings;
 mod refusals;
 mod rewriting;
+mod sources;
 mod traces;
 mod upgrades;
 

@@ -112,6 +112,7 @@ fn defect_line(alloc: Global, defect: &Defect) -> Result<Vec<u8>, NoMemory>
         Defect::NoFrame => name_line(alloc, "multiverse: no frame", "", ""),
         Defect::BadImage(fault) => fault_line(alloc, fault),
         Defect::BadLog(line) => number_line(alloc, "multiverse: bad log: line ", *line),
+        Defect::BadSource(line) => number_line(alloc, "multiverse: bad source: line ", *line),
         Defect::Differs(found) => differs_line(alloc, found),
         Defect::TooLarge(size) => number_line(alloc, "multiverse: too large: mapped ", *size),
         Defect::NoRoom(size) => number_line(alloc, "multiverse: no room: ", *size),

@@ -10,7 +10,7 @@ ghost use Rattle.mv_rewrite.specs.OutputFile.{IsWrittenFor};
 ghost use Rattle.mv_rewrite.specs.Rewriting.{IsRewritten};
 ghost use Rattle.simulation_laws.specs.Stopping.{Simulates};
 ghost use Rattle.multiverse_cli.specs.Answers.{Fits};
-ghost use Rattle.multiverse_cli.specs.Commands.{IsChecking, IsExtracting, IsListing, IsNotAlike, IsNotExtracted, IsNotListed, IsNotRewritten, IsNotTraced, IsNotUpgraded, IsRewriting, IsSampling, IsTracing, IsUpgrading};
+ghost use Rattle.multiverse_cli.specs.Commands.{IsAssembling, IsChecking, IsExtracting, IsListing, IsNotAlike, IsNotAssembled, IsNotExtracted, IsNotListed, IsNotRewritten, IsNotTraced, IsNotUpgraded, IsRewriting, IsSampling, IsTracing, IsUpgrading};
 ghost use Rattle.multiverse_cli.specs.Verdicts.{AllFit, IsVerdict, IsVerdictOf};
 ghost use Rattle.multiverse_cli.specs.Words.{HasRule, HasSize, IsEdgeRule, IsRule, IsRuled, ToList, ToRewrite, ToSample, ToTrace, input_count, named, named_edges as edges_of, named_rule as rule_of, work_of};
 
@@ -24,6 +24,7 @@ use counter_hooks::{Hooks, Question, Rule, picked, read_rule};
 use edge_hooks::{EdgeHooks, EdgeRule, edge_picked, read_edge_rule};
 use elf32_read::{admit, read_image, runs};
 use elf32_write::read_frame;
+use mini_asm::{assemble, listing};
 use mv_base::{Bytes, NoMemory};
 use mv_rewrite::{RewriteFault, Rewritten, frame_edge_rule, frame_rule, rewrite_edges};
 use pair_check::check;
@@ -77,6 +78,7 @@ pub fn verdict<'a>(
         (Task::Extract { output }, [file]) => extracted(alloc, output, file.as_slice()),
         (Task::Upgrade { output }, [file]) => upgraded(alloc, output, file.as_slice()),
         (Task::Check, [image, file]) => checked(alloc, image.as_slice(), file.as_slice()),
+        (Task::Assemble { output }, [source]) => assembled(alloc, output, source.as_slice()),
         _ => unreachable!(),
     }
 }
@@ -199,6 +201,22 @@ fn checked<'a>(alloc: Global, image: &[u8], file: &[u8]) -> Result<Delivery<'a>,
     Ok(Delivery {
         text: Printout::Text(text),
         file: None,
+    })
+}
+
+/// The image that a source assembles to, which is written to `output`, and its listing.
+fn assembled<'a>(alloc: Global, output: &'a str, source: &[u8]) -> Result<Delivery<'a>, Objection>
+    ensures { IsVerdictOf (IsNotAssembled source.now) (IsAssembling output.now source.now) result }
+{
+    let done = assemble(alloc, source)?;
+    let mut text = Vec::new(alloc);
+    listing(&done, &mut text)?;
+    Ok(Delivery {
+        text: Printout::Text(text),
+        file: Some(NewFile {
+            name: output,
+            bytes: Bytes::new(done.bytes),
+        }),
     })
 }
 

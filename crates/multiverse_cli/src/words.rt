@@ -4,7 +4,7 @@ ghost use Rattle.std.specs.Prelude.{◌≡◌, ◌≤◌, IfSome, IsSome, length
 ghost use Rattle.std.specs.Option.{option_map};
 ghost use Rattle.counter_hooks.specs.RuleTexts.{rule_of};
 ghost use Rattle.edge_hooks.specs.RuleTexts.{edge_rule_of};
-ghost use Rattle.multiverse_cli.specs.Words.{asked, asked_of, check_words, counting_asked, counting_words, edges_or_none, extract_words, frame_words, image_words, input_count, is_name as is_name_of, IsRuled, HasRule, HasSize, list_words, named, number_of, number_within as number_within_of, one_option, option_edges, option_rule, rewrite_words, rule_or_none, sample_words, texts, trace_words, two_options, upgrade_words, work_of};
+ghost use Rattle.multiverse_cli.specs.Words.{asked, asked_of, assemble_words, check_words, counting_asked, counting_words, edges_or_none, extract_words, frame_words, image_words, input_count, is_name as is_name_of, IsRuled, HasRule, HasSize, list_words, made_words, named, number_of, number_within as number_within_of, one_option, option_edges, option_rule, rewrite_words, rule_or_none, sample_words, texts, trace_words, two_options, upgrade_words, work_of};
 
 use crate::sample::LARGEST;
 use counter_hooks::is_rule;
@@ -50,6 +50,10 @@ pub enum Task<'a> {
     },
     /// Look whether the second file is a rewriting of the image, which the first file holds.
     Check,
+    /// Write to `output` the image that the source, which the one file is, assembles to.
+    Assemble {
+        output: &'a str,
+    },
 }
 
 /// A command: the names of the store's files that it reads, in order, and what it does with them.
@@ -69,7 +73,7 @@ pub fn read_command(words: &[String]) -> Option<Command<'_>>
     image_command(words).or_else(|| frame_command(words))
 }
 
-/// A command over an image: one that is read, or a sample.
+/// A command over an image: one that is read, or one that is made.
 fn image_command(words: &[String]) -> Option<Command<'_>>
     ensures is { option_map asked result ≡ image_words (texts words.now) }
     ensures inputs { IfSome result (λ c. length c.reads.now ≡ input_count (work_of c.task)) }
@@ -80,7 +84,17 @@ fn image_command(words: &[String]) -> Option<Command<'_>>
         .or_else(|| counting_command(words))
         .or_else(|| trace_command(words))
         .or_else(|| list_command(words))
-        .or_else(|| sample_command(words))
+        .or_else(|| made_command(words))
+}
+
+/// A command that makes an image: a sample, or what a source assembles to.
+fn made_command(words: &[String]) -> Option<Command<'_>>
+    ensures is { option_map asked result ≡ made_words (texts words.now) }
+    ensures inputs { IfSome result (λ c. length c.reads.now ≡ input_count (work_of c.task)) }
+    ensures sized { IfSome result (λ c. HasSize (work_of c.task)) }
+    ensures ruled { IfSome result (λ c. HasRule c.task) }
+{
+    sample_command(words).or_else(|| assemble_command(words))
 }
 
 /// A command over what a rewrite wrote.
@@ -352,6 +366,29 @@ fn check_command(words: &[String]) -> Option<Command<'_>>
                     task: Task::Check,
                 })
             }
+        _ => None,
+    }
+}
+
+/// `assemble SRC OUT`.
+fn assemble_command(words: &[String]) -> Option<Command<'_>>
+    ensures is { option_map asked result ≡ assemble_words (texts words.now) }
+    ensures inputs { IfSome result (λ c. length c.reads.now ≡ input_count (work_of c.task)) }
+    ensures sized { IfSome result (λ c. HasSize (work_of c.task)) }
+    ensures ruled { IfSome result (λ c. HasRule c.task) }
+{
+    match words {
+        [command, source, output]
+            if command.as_str() == "assemble"
+                && is_name(source.as_str())
+                && is_name(output.as_str()) => {
+            Some(Command {
+                reads: &words[1..2],
+                task: Task::Assemble {
+                    output: output.as_str(),
+                },
+            })
+        }
         _ => None,
     }
 }

@@ -7,7 +7,7 @@ use mv_rewrite::FILE_LIMIT;
 use std::test::Fail;
 
 /// Words that ask for nothing.
-static USAGE: [&str; 42] = [
+static USAGE: [&str; 44] = [
     "",
     "rewrite",
     "rewrite a",
@@ -50,6 +50,8 @@ static USAGE: [&str; 42] = [
     "check a",
     "check a b b",
     "check a --b",
+    "assemble a",
+    "assemble a --b",
 ];
 
 #[test]

@@ -1,0 +1,4 @@
+start:
+mov eax,0x1
+mov ebx,0x7
+int 0x80
